@@ -1,0 +1,7 @@
+-- The opposite of an element means the opposite of what it means. Assumes nothing.
+use native.Mathlib.Omega.{arith}
+use Rattle.kinds.specs.Residue.{same-residue}
+use Rattle.kinds.proofs.key_word.KeyWordElement.opposite.Needs as need
+
+pub returns : need.returns
+returns c = same-residue _ _ (omega arith)

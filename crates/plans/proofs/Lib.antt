@@ -1,0 +1,10 @@
+pub mod Bounds
+pub mod Choose
+pub mod Counting
+pub mod Filling
+pub mod Finding
+pub mod Halves
+pub mod Joining
+pub mod Places
+pub mod Ranks
+pub mod Tables

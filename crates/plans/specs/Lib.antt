@@ -1,0 +1,9 @@
+pub mod Binomial
+pub mod Calls
+pub mod Groups
+pub mod Layout
+pub mod Numbering
+pub mod Places
+pub mod Refusals
+pub mod Shape
+pub mod Triangle
