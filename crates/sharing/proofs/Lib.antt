@@ -1,0 +1,13 @@
+pub mod Alike
+pub mod Covering
+pub mod Exhibit
+pub mod Hiding
+pub mod Linear
+pub mod Reaching
+pub mod Reissuing
+pub mod Restoring
+pub mod Runs
+pub mod Secrets
+pub mod Thresholds
+pub mod Totals
+pub mod Turning

@@ -1,0 +1,11 @@
+pub mod Calls
+pub mod Cover
+pub mod Dealing
+pub mod Elements
+pub mod Example
+pub mod Format
+pub mod Promise
+pub mod Restoring
+pub mod Secrecy
+pub mod Steps
+pub mod Threshold
