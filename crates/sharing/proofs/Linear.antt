@@ -63,10 +63,6 @@ module _ (G : Group) where
   picked-minus true x = refl
   picked-minus false x = sym (minus-nil G)
 
-  picked-nil : (b : Bool) → cond b (G .nil) (G .nil) ≡ G .nil
-  picked-nil true = refl
-  picked-nil false = refl
-
   pub sumAt-added : (test : Column → Bool) (js : List Column) (xs ys : List (G .Value)) → length xs ≡ length ys
       → sumAt G test js (added G xs ys) ≡ G .plus (sumAt G test js xs) (sumAt G test js ys)
   sumAt-added test [] xs ys e = sym (G .unit (G .nil))

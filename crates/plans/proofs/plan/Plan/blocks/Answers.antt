@@ -1,8 +1,8 @@
-use Prim.Native.Nat.{_*_, _-_, _≤_}
+use Prim.Native.Nat.{_*_, _≤_}
 use native.Mathlib.Omega.{arith}
 use Rattle.std.proofs.shelf.Bits.{mul-le}
 use Rattle.plans.proofs.Bounds.{group-bound}
-use Rattle.plans.proofs.plan.Plan.random_count.Needs as need
+use Rattle.plans.proofs.plan.Plan.blocks.Needs as need
 
 -- the groups times the components
 twice : (c : need.After-group-count) → c .group-count .result * c .args .self .now .components ≤ 2016
@@ -15,5 +15,4 @@ mul-result c = record { fits = omega (arith, twice c) }
 
 pub mul-result-2 : need.mul-result-2
 mul-result-2 c =
-    let few : c .args .self .now .threshold - 1 ≤ 10 = omega (arith, c .args .self .now .few, c .args .self .now .within) in
-    record { fits = omega (arith, mul-le (c .group-count .result * c .args .self .now .components) (c .args .self .now .threshold - 1) 2016 10 (twice c) few) }
+    record { fits = omega (arith, mul-le (c .group-count .result * c .args .self .now .components) (c .args .count) 2016 10 (twice c) (c .pre)) }
