@@ -51,10 +51,6 @@ module _ (G : Group) where
   opposed-added (x ∷ xs) [] = refl
   opposed-added (x ∷ xs) (y ∷ ys) = ap₂ _∷_ (minus-plus G x y) (opposed-added xs ys)
 
-  pub opposed-zeros : (n : ℕ) → opposed G (zeros G n) ≡ zeros G n
-  opposed-zeros zero = refl
-  opposed-zeros (suc n) = ap₂ _∷_ (minus-nil G) (opposed-zeros n)
-
   picked-plus : (b : Bool) (x y : G .Value) → cond b (G .plus x y) (G .nil) ≡ G .plus (cond b x (G .nil)) (cond b y (G .nil))
   picked-plus true x y = refl
   picked-plus false x y = sym (G .unit (G .nil))
