@@ -109,7 +109,7 @@ fn print_matrix(rt: &LibcRuntime, plan: &Plan) -> io::Result<()> {
 }
 
 // Prints what a planner wants to see of a plan.
-pub fn print_plan(rt: &LibcRuntime, plan: &Plan) -> io::Result<()> {
+pub(crate) fn print_plan(rt: &LibcRuntime, plan: &Plan) -> io::Result<()> {
     let harbours = plan.harbours();
     let threshold = plan.threshold();
     let components = plan.components();
