@@ -1,5 +1,5 @@
 -- What the elements of the three kinds mean: residues, of which the number is also the element's code. Assumes nothing.
-use Prim.Native.Nat.{ℕ, _^_, _<_}
+use Prim.Native.Nat.{ℕ, _^_}
 use lib.Dec.{lit<}
 use lib.Pow.{pow-pos}
 use Rattle.kinds.specs.Group.{Group}

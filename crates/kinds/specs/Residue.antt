@@ -1,5 +1,5 @@
 -- The groups of the three kinds: numbers below a limit, added modulo the limit or digit by digit. Assumes nothing.
-use mathlib.Core.Path.{_≡_, refl, sym, ap, _∙_}
+use mathlib.Core.Path.{_≡_, sym, ap, _∙_}
 use mathlib.Core.HLevel.{isProp→PathP}
 use Prim.Native.Nat.{ℕ, zero, _+_, _-_, _%_, _^_, _<_}
 use native.Mathlib.Bridge.{le-prop}

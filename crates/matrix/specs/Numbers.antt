@@ -1,6 +1,5 @@
 -- The matrix by numbers: which row and which column is which, for a plan of groups that are all of one size. Assumes nothing.
 use mathlib.Core.Bool.{cond, _||_}
-use mathlib.Core.List.{List}
 use mathlib.Core.Path.{_≡_}
 use Prim.Native.Nat.{ℕ, _+_, _-_, _*_, _≤_, _<_}
 use lib.Dec.{leb}

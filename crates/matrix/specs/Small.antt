@@ -8,7 +8,7 @@ use Rattle.kinds.specs.Kinds.{words}
 use Rattle.kinds.specs.Residue.{Residue}
 use Rattle.plans.specs.Shape.{shapeOf, masksOf}
 use Rattle.plans.specs.declared.plan.Plan.{Plan}
-use Rattle.matrix.specs.Matrix.{Row, rows, slip, sizeOf}
+use Rattle.matrix.specs.Matrix.{rows, slip, sizeOf}
 
 -- Over any list of groups: where key and random words are each 0 or 1, a slip at position 1 is at most its group's size, and any other at most 1.
 abbrev pub Slips-stay-small : Type 0

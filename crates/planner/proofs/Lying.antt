@@ -22,7 +22,6 @@ use Rattle.std.specs.declared.result.Result.{Result}
 use Rattle.std.specs.declared.result.Result.the-variants.{Ok, Err}
 use Rattle.std.proofs.shelf.Ways.{tells}
 use Rattle.planner.specs.Slips.{Lies}
-use Rattle.planner.specs.declared.slip.Slip.{Slip}
 
 some-number : (e : Refusal) → 0 < numberOf e
 some-number Harbours = omega arith

@@ -1,5 +1,5 @@
 // What a line of the input asks for.
-ghost use mathlib.Core.List.{List, [], _∷_};
+ghost use mathlib.Core.List.{[], _∷_};
 ghost use mathlib.Core.Logic.{_⊎_};
 ghost use mathlib.Core.Path.{_≡_};
 ghost use Rattle.planner.specs.Lines.{passedOver, written, Asks, Fewer, IsNumber, More, Unclear, Words};

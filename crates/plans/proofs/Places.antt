@@ -17,10 +17,9 @@ use Rattle.plans.specs.Binomial.{choose}
 use Rattle.plans.specs.Groups.{has, groups}
 use Rattle.plans.specs.Layout.{Slot, maskOf, joinedBy, slots, card, tray, namedBy}
 use Rattle.plans.specs.Places.{Names, liesAt, One-slip-a-place, Cards-are-long}
-use Rattle.plans.specs.Shape.{shapeOf, masksOf, cardLength, trayLength}
-use Rattle.plans.specs.declared.plan.Plan.{Plan}
+use Rattle.plans.specs.Shape.{shapeOf, masksOf}
 use Rattle.plans.proofs.Counting.{counting-around, counting-front, countBy-kept, around, Stands, stands}
-use Rattle.plans.proofs.Joining.{joined-append, length-joined, getD-joined, Falls, falls, sumBy-times, sumBy-same, countBy-take}
+use Rattle.plans.proofs.Joining.{joined-append, length-joined, getD-joined, falls, sumBy-times, sumBy-same, countBy-take}
 use Rattle.plans.proofs.Ranks.{count-with}
 
 module _ (masks : List ℕ) (k : ℕ) where

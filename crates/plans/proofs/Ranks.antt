@@ -2,7 +2,7 @@
 use mathlib.Core.Bool.{Bool, true, false, cond, _&&_}
 use mathlib.Core.List.{List, [], _∷_, _++_}
 use mathlib.Core.Logic.{_⊎_, inl, inr, ⊎-elim}
-use mathlib.Core.Path.{_≡_, refl, sym, ap, ap₂, _∙_, subst}
+use mathlib.Core.Path.{_≡_, refl, sym, ap, ap₂, _∙_}
 use Prim.Native.Nat.{ℕ, zero, suc, _+_, _-_, _*_, _^_, _≤_, _<_}
 use native.Mathlib.Nat.{pow-suc, not-suc-le-zero, add-comm, zero-add, add-zero, add-assoc}
 use native.Mathlib.Numerals.{add-one}
@@ -11,11 +11,11 @@ use lib.Count.{ones}
 use lib.Dec.{eqb, ltb, eqb·suc-suc}
 use lib.ListN.{length}
 use Rattle.std.specs.Iters.{counting}
-use Rattle.std.specs.shelf.Lists.{kept-by, countBy, All}
+use Rattle.std.specs.shelf.Lists.{countBy, All}
 use Rattle.std.proofs.shelf.Elements.{all-kept-by, all-weaker}
 use Rattle.std.proofs.shelf.Lists.{append-nil, length-push}
 use Rattle.std.proofs.shelf.Sums.{length-kept-by}
-use Rattle.std.proofs.shelf.Tests.{eq-eqb, ne-eqb, eqb-true, lt-ltb, le-ltb, cases-eq, and-left, and-right, true≢false, and-parts, cases-bool}
+use Rattle.std.proofs.shelf.Tests.{ne-eqb, lt-ltb, le-ltb, cases-eq, and-left, and-right, true≢false, cases-bool}
 use Rattle.plans.specs.Binomial.{choose}
 use Rattle.plans.specs.Groups.{has, members, groups, weighed, rank, onCard}
 use Rattle.plans.proofs.Choose.{choose-none, choose-step}

@@ -1,6 +1,6 @@
 -- What can be read from a table. Assumes nothing.
 use mathlib.Core.Bool.{true, false, cond, not, _||_}
-use mathlib.Core.List.{List, _++_, map}
+use mathlib.Core.List.{List, _++_}
 use mathlib.Core.Logic.{⊎-elim}
 use mathlib.Core.Path.{_≡_, sym, ap, _∙_}
 use Prim.Native.Nat.{ℕ, _+_, _-_, _*_, _/_, _%_, _^_, _≤_, _<_}
@@ -8,9 +8,8 @@ use native.Mathlib.Nat.{div-eq-of-lt}
 use native.Mathlib.Omega.{arith}
 use lib.Count.{ones}
 use lib.Dec.{eqb, leb}
-use lib.ListN.{length, getD, take, replicate}
+use lib.ListN.{getD, take, replicate}
 use lib.Pow.{pow-pos}
-use Rattle.std.specs.Iters.{counting}
 use Rattle.std.proofs.shelf.Bits.{div-mul-add, mod-mul-add, le-div}
 use Rattle.std.proofs.shelf.Counted.{getD-map-counting}
 use Rattle.std.proofs.shelf.Lists.{getD-append-left, getD-take, take-at}

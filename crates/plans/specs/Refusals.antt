@@ -1,5 +1,5 @@
 -- Which refusal a call gives, by its number, and 0 where it gives none. Assumes nothing.
-use mathlib.Core.Bool.{Bool, cond, not, _||_, _&&_}
+use mathlib.Core.Bool.{Bool, cond, not, _||_}
 use Prim.Native.Nat.{ℕ, _^_}
 use lib.Count.{ones}
 use lib.Dec.{eqb, leb, ltb}

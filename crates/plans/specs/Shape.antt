@@ -1,8 +1,6 @@
 -- What a plan comes to: its three numbers, its groups, and how much of everything there is. Assumes nothing.
-use mathlib.Core.Bool.{Bool, cond, _||_}
 use mathlib.Core.List.{List}
-use Prim.Native.Nat.{ℕ, _+_, _-_, _*_}
-use lib.Dec.{ltb}
+use Prim.Native.Nat.{ℕ, _-_, _*_}
 use Rattle.plans.specs.Binomial.{choose}
 use Rattle.plans.specs.Groups.{groups}
 use Rattle.plans.specs.declared.plan.Plan.{Plan}

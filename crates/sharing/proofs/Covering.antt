@@ -17,7 +17,7 @@ use Rattle.std.proofs.shelf.Lists.{map-append, map-id, length-map, getD-at, tak
 use Rattle.std.proofs.shelf.Tests.{true≢false, cases-eq, eq-eqb, ne-eqb, and-from, and-left, and-right, cond-true, cond-false}
 use Rattle.std.proofs.shelf.Ways.{tells}
 use Rattle.kinds.specs.Group.{Group}
-use Rattle.kinds.proofs.Groups.{left-unit, minus-nil}
+use Rattle.kinds.proofs.Groups.{minus-nil}
 use Rattle.plans.specs.Groups.{has, members, position}
 use Rattle.plans.specs.Layout.{Slot, maskOf, joinedBy, slots, card, tray}
 use Rattle.plans.proofs.Counting.{counting-around, around}
@@ -26,7 +26,7 @@ use Rattle.plans.proofs.Joining.{joined-append}
 use Rattle.matrix.specs.Matrix.{Column, key, block, columns, sizeOf, marked, sumAt, slip, rowOf}
 use Rattle.matrix.proofs.Joined.{all-map-counting}
 use Rattle.sharing.specs.Cover.{Readers, firstUnread, coverAt, cover, Unread, Hold-no-group}
-use Rattle.sharing.specs.Dealing.{Scheme, dealing, cardStart, cardIn, total, opposed, zeros}
+use Rattle.sharing.specs.Dealing.{Scheme, dealing, cardIn, total, opposed, zeros}
 use Rattle.sharing.proofs.Alike.{all-counting, map-map, map-same}
 use Rattle.sharing.proofs.Linear.{sumAt-append}
 use Rattle.sharing.proofs.Totals.{total-joined, total-none, total-one}

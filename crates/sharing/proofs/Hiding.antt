@@ -1,23 +1,23 @@
 -- Two runs beside each other: what is seen of a turn is the same, and the trays go on differing by what the cover hides. Assumes nothing.
-use mathlib.Core.Bool.{Bool, true, false, cond, not, _&&_, _||_}
+use mathlib.Core.Bool.{Bool, true, false, cond}
 use mathlib.Core.List.{List, [], _∷_, _++_, map}
-use mathlib.Core.Logic.{_⊎_, inl, inr, ⊎-elim}
-use mathlib.Core.Path.{_≡_, refl, sym, ap, ap₂, _∙_, subst}
-use Prim.Native.Nat.{ℕ, zero, suc, _+_, _-_, _≤_, _<_}
+use mathlib.Core.Logic.{inl, inr}
+use mathlib.Core.Path.{_≡_, refl, sym, ap, ap₂, _∙_}
+use Prim.Native.Nat.{ℕ, zero, suc, _+_, _-_, _<_}
 use native.Mathlib.Omega.{arith}
 use lib.Dec.{eqb, lit<}
 use lib.ListN.{length, take, drop, length-map, length-replicate}
 use Rattle.std.proofs.shelf.Lists.{take-map, drop-map}
-use Rattle.std.proofs.shelf.Tests.{eqb-true, eqb-false, eq-eqb, false≢true, and-from}
+use Rattle.std.proofs.shelf.Tests.{eq-eqb, false≢true}
 use Rattle.kinds.specs.Group.{Group}
 use Rattle.plans.specs.Layout.{card, tray}
 use Rattle.matrix.specs.Matrix.{slip, rowOf}
-use Rattle.sharing.specs.Calls.{Told, Call, draw, apply, discard, read, picture, reissue, audit, trayLength, randomCount, noHarbour, needed, current, refusal, turned, after, Turn, own, other, afterTurn, pictureLength}
+use Rattle.sharing.specs.Calls.{Told, Call, draw, apply, discard, read, picture, reissue, audit, trayLength, randomCount, noHarbour, needed, current, refusal, turned, after, own, other}
 use Rattle.sharing.specs.Cover.{Readers, cover, Hold-no-group}
-use Rattle.sharing.specs.Dealing.{Scheme, dealing, cardStart, cardIn, restores, added, opposed, zeros}
+use Rattle.sharing.specs.Dealing.{Scheme, dealing, cardStart, cardIn, added, opposed, zeros}
 use Rattle.sharing.specs.Format as format
-use Rattle.sharing.specs.Secrecy.{Sound, Agrees, handsOut, readsIn, turnShift}
-use Rattle.sharing.specs.Steps.{Kind, Seen, refused, noted, done, wiped, stale, handed, pictured, agrees, differs, reissued, State, values, headOf, Audits, Does, Step}
+use Rattle.sharing.specs.Secrecy.{Sound, Agrees, handsOut, turnShift}
+use Rattle.sharing.specs.Steps.{Kind, Seen, handed, pictured, agrees, State, values, headOf, Audits, Does}
 use Rattle.sharing.proofs.Covering.{covered, cover-length, card-of}
 use Rattle.sharing.proofs.Linear.{length-added, added-assoc, added-comm, added-zeros, added-opposed, dealing-added}
 use Rattle.sharing.proofs.Turning.{Kept, passes, fits, in-harbours, restores-key, reissue-keeps, applied}

@@ -1,15 +1,14 @@
 -- The shift is one of elements. Assumes nothing.
 use mathlib.Core.Bool.{Bool, true, false, cond}
-use mathlib.Core.List.{List, [], _∷_, _++_, map}
-use mathlib.Core.Path.{_≡_, refl, sym, ap, ap₂, _∙_}
+use mathlib.Core.List.{List, [], _∷_}
+use mathlib.Core.Path.{_≡_, refl, ap, ap₂, _∙_}
 use Prim.Native.Nat.{ℕ, zero, suc, _+_}
 use lib.Dec.{eqb}
 use lib.ListN.{getD, drop}
 use Rattle.std.specs.shelf.Lists.{All}
 use Rattle.std.proofs.shelf.Elements.{all-append, all-map}
-use Rattle.kinds.specs.Group.{Group}
 use Rattle.matrix.specs.Matrix.{Column, key, block, columns, sizeOf}
-use Rattle.sharing.specs.Calls.{fresh, Told, Call, draw, apply, discard, read, picture, reissue, audit, refusal, Turn, own, other, afterTurn}
+use Rattle.sharing.specs.Calls.{fresh, Told, draw, apply, discard, read, picture, reissue, audit, refusal, Turn, own, other, afterTurn}
 use Rattle.sharing.specs.Cover.{Readers, coverAt, cover, firstUnread}
 use Rattle.sharing.specs.Dealing.{Scheme, added, opposed}
 use Rattle.sharing.specs.Elements.{Makes, Shift-is-of-elements}

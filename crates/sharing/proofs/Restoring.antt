@@ -1,7 +1,6 @@
 -- Every group of a dealing restores the key. Assumes nothing.
 use mathlib.Core.Bool.{Bool, true, false, cond, _&&_, _||_}
 use mathlib.Core.List.{List, [], _∷_, _++_, map}
-use mathlib.Core.Logic.{⊎-elim}
 use mathlib.Core.Path.{_≡_, refl, sym, ap, ap₂, _∙_}
 use Prim.Native.Nat.{ℕ, zero, suc, _+_, _-_, _^_, _≤_, _<_}
 use native.Mathlib.Nat.{zero-add, add-comm}
@@ -9,24 +8,23 @@ use native.Mathlib.Numerals.{add-one}
 use native.Mathlib.Omega.{arith}
 use lib.Count.{ones}
 use lib.Dec.{eqb}
-use lib.IntN.{ℤ, pos, negsuc}
+use lib.IntN.{pos, negsuc}
 use lib.ListN.{length, getD}
 use Rattle.std.specs.Iters.{counting}
 use Rattle.std.specs.shelf.Lists.{All, joined}
 use Rattle.std.proofs.shelf.Counted.{length-map-counting, fill-by-all}
 use Rattle.std.proofs.shelf.Elements.{all-getD, all-weaker, kept-by-passes}
 use Rattle.std.proofs.shelf.Lists.{append-nil, getD-map, length-push, map-push}
-use Rattle.std.proofs.shelf.Tests.{eq-eqb, ne-eqb, eqb-true, cases-eq, and-parts}
+use Rattle.std.proofs.shelf.Tests.{eq-eqb, ne-eqb, eqb-true, and-parts}
 use Rattle.kinds.specs.Group.{Group}
-use Rattle.kinds.proofs.Groups.{left-unit, middle-four, minus-nil, minus-plus}
+use Rattle.kinds.proofs.Groups.{left-unit, minus-nil}
 use Rattle.plans.specs.Groups.{has, members, position, sign}
 use Rattle.plans.specs.Layout.{Slot, maskOf, tray, place}
-use Rattle.plans.specs.Places.{Names}
 use Rattle.plans.proofs.Counting.{kept-more, counting-append}
 use Rattle.plans.proofs.Halves.{members-count}
 use Rattle.plans.proofs.Places.{lies}
 use Rattle.plans.proofs.Ranks.{members-low}
-use Rattle.matrix.specs.Matrix.{Row, Column, key, block, columns, markedIn, marked, sizeOf, sumAt, slip, rowOf}
+use Rattle.matrix.specs.Matrix.{Column, key, block, columns, markedIn, marked, sizeOf, sumAt, slip, rowOf}
 use Rattle.matrix.proofs.Every.{every-column}
 use Rattle.matrix.proofs.Joined.{all-joined, all-map-counting}
 use Rattle.sharing.specs.Dealing.{Scheme, dealing, total, under, restored, restores}

@@ -1,17 +1,17 @@
 -- Restoring over whole runs. Assumes nothing.
 use mathlib.Core.List.{List, [], _∷_}
 use mathlib.Core.Logic.{inl, inr}
-use mathlib.Core.Path.{_≡_, refl, sym, ap, _∙_, subst}
+use mathlib.Core.Path.{_≡_, sym, ap, _∙_, subst}
 use Prim.Native.Nat.{ℕ, _<_}
 use native.Mathlib.Omega.{arith}
 use lib.Dec.{lit<}
 use lib.ListN.{length, take, drop}
 use Rattle.kinds.specs.Group.{Group}
-use Rattle.sharing.specs.Calls.{fresh, Told, Turn, afterTurn, takenBy, trayLength, noHarbour, needed, reissue}
+use Rattle.sharing.specs.Calls.{fresh, Told, Turn, afterTurn, takenBy, trayLength, noHarbour, needed}
 use Rattle.sharing.specs.Dealing.{Scheme, restores}
 use Rattle.sharing.specs.Restoring.{Dealing-is-linear, Dealing-restores, Cover-hides, Runs-restore}
 use Rattle.sharing.specs.Secrecy.{Sound}
-use Rattle.sharing.specs.Steps.{Kind, Seen, agrees, State, values, Audits, Step, Run, Dealt}
+use Rattle.sharing.specs.Steps.{Kind, Seen, agrees, State, values, Audits, Run}
 use Rattle.sharing.proofs.Covering.{covered, cover-opposed}
 use Rattle.sharing.proofs.Linear.{dealing-added, dealing-opposed}
 use Rattle.sharing.proofs.Restoring.{dealing-restores-key}

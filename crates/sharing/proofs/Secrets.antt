@@ -1,19 +1,18 @@
 -- Secrecy over whole runs. Assumes nothing.
-use mathlib.Core.Bool.{Bool, true, false, cond, _&&_, _||_}
-use mathlib.Core.List.{List, [], _∷_, _++_, map}
+use mathlib.Core.Bool.{Bool, true, false, cond, _&&_}
+use mathlib.Core.List.{List, [], _∷_, _++_}
 use mathlib.Core.Path.{_≡_, refl, sym, ap, ap₂, _∙_, subst}
-use Prim.Native.Nat.{ℕ, zero, suc, _+_, _-_, _≤_, _<_}
-use native.Mathlib.Omega.{arith}
+use Prim.Native.Nat.{ℕ, _+_}
 use lib.Dec.{eqb, lit<}
 use lib.ListN.{length, take, drop, length-map}
 use Rattle.std.proofs.shelf.Lists.{take-map, drop-map}
-use Rattle.std.proofs.shelf.Tests.{eqb-true, eqb-false, eq-eqb, or-left, or-right, and-from, false≢true}
+use Rattle.std.proofs.shelf.Tests.{eqb-true, eqb-false, eq-eqb, or-left, or-right, false≢true}
 use Rattle.kinds.specs.Group.{Group}
 use Rattle.sharing.specs.Calls.{fresh, Told, Call, draw, apply, discard, read, picture, reissue, audit, refusal, after, Turn, own, other, afterTurn, takenBy, takes, randomCount}
 use Rattle.sharing.specs.Cover.{Readers, cover, Hold-no-group}
-use Rattle.sharing.specs.Dealing.{Scheme, dealing, added, opposed, zeros}
+use Rattle.sharing.specs.Dealing.{Scheme, dealing, added, opposed}
 use Rattle.sharing.specs.Secrecy.{Sound, Agrees, handsOut, readsIn, readers, turnShift, shifts, read-in, Secrecy}
-use Rattle.sharing.specs.Steps.{Kind, Seen, State, values, Does, Step, Run, Dealt}
+use Rattle.sharing.specs.Steps.{Kind, Seen, State, values, Step, Run, Dealt}
 use Rattle.sharing.proofs.Covering.{cover-length}
 use Rattle.sharing.proofs.Hiding.{Beside, call-hides, stays}
 use Rattle.sharing.proofs.Linear.{length-added, dealing-added}
@@ -54,9 +53,6 @@ either-way false = refl
 shift-long : (G : Group) (w : ℕ) (by : ℕ → Readers) (d : List (G .Value)) (t : Told) (x : Turn) → length (turnShift G w by d t x) ≡ takenBy w t x
 shift-long G w by d t (own (draw randoms sheet)) = go (eqb (refusal w t (draw randoms sheet)) 0)
   where
-    this : List (G .Value)
-    this = opposed G (cover G (t .scheme) (by (t .round)) d)
-
     go : (b : Bool) → length (cond b (added G (cover G (t .scheme) (by (t .round + 1)) d) (opposed G (cover G (t .scheme) (by (t .round)) d))) []) ≡ cond b (randomCount (t .scheme)) 0
     go true =
         length-added G (cover G (t .scheme) (by (t .round + 1)) d) (opposed G (cover G (t .scheme) (by (t .round)) d))

@@ -1,9 +1,9 @@
 -- Fewer than t harbours hold no group of t, and the opposite shift. Assumes nothing.
-use mathlib.Core.Bool.{Bool, true, false, cond, _&&_, _||_}
-use mathlib.Core.List.{List, [], _∷_, _++_, map}
+use mathlib.Core.Bool.{Bool, true, false, cond}
+use mathlib.Core.List.{List, [], _∷_, _++_}
 use mathlib.Core.Logic.{⊎-elim}
-use mathlib.Core.Path.{_≡_, refl, sym, ap, ap₂, _∙_, subst}
-use Prim.Native.Nat.{ℕ, zero, suc, _+_, _-_, _^_, _≤_, _<_}
+use mathlib.Core.Path.{_≡_, refl, sym, ap, ap₂, _∙_}
+use Prim.Native.Nat.{ℕ, suc, _+_, _^_, _≤_, _<_}
 use native.Mathlib.Omega.{arith}
 use lib.Count.{ones}
 use lib.Dec.{eqb}
@@ -20,9 +20,9 @@ use Rattle.plans.specs.Shape.{shapeOf, masksOf}
 use Rattle.plans.specs.declared.plan.Plan.{Plan}
 use Rattle.plans.proofs.Counting.{countBy-cons}
 use Rattle.plans.proofs.Halves.{members-count}
-use Rattle.sharing.specs.Calls.{fresh, Told, Call, draw, apply, discard, read, picture, reissue, audit, refusal, Turn, own, other, afterTurn}
+use Rattle.sharing.specs.Calls.{fresh, Told, draw, apply, discard, read, picture, reissue, audit, refusal, Turn, own, other, afterTurn}
 use Rattle.sharing.specs.Cover.{Readers, cover, Hold-no-group}
-use Rattle.sharing.specs.Dealing.{Scheme, added, opposed}
+use Rattle.sharing.specs.Dealing.{added, opposed}
 use Rattle.sharing.specs.Secrecy.{Sound, Agrees, turnShift, shifts, read-in, Opposite-undoes}
 use Rattle.sharing.specs.Steps.{Kind}
 use Rattle.sharing.specs.Threshold.{schemeOf, readCount, Secrecy-of-plans}

@@ -1,19 +1,16 @@
 -- What a turn of one run keeps: the tray stays a dealing of the key dealt, and an open sheet one of the all-zero key. Assumes nothing.
-use mathlib.Core.Bool.{Bool, true, false, cond, not, _&&_, _||_}
-use mathlib.Core.List.{List, [], _∷_, _++_, map}
-use mathlib.Core.Logic.{_⊎_, inl, inr, ⊎-elim}
+use mathlib.Core.Bool.{Bool, true, false, cond, not}
+use mathlib.Core.List.{List, [], _∷_, map}
 use mathlib.Core.Path.{_≡_, refl, sym, ap, ap₂, _∙_, subst}
-use Prim.Native.Nat.{ℕ, zero, suc, _+_, _-_, _≤_, _<_}
+use Prim.Native.Nat.{ℕ, suc, _+_, _-_, _≤_, _<_}
 use native.Mathlib.Nat.{zero-add}
 use native.Mathlib.Omega.{arith}
 use lib.Dec.{eqb, ltb, lit<}
 use lib.ListN.{length, getD, take, drop, length-map, length-replicate}
-use Rattle.std.specs.Iters.{counting}
-use Rattle.std.specs.shelf.Lists.{All, leading, countBy}
+use Rattle.std.specs.shelf.Lists.{leading, countBy}
 use Rattle.std.proofs.shelf.Counted.{getD-map-counting}
 use Rattle.std.proofs.shelf.Lists.{take-map, drop-map}
-use Rattle.std.proofs.shelf.Tests.{cases-bool, eqb-true, eqb-false, eq-eqb, ne-eqb, not-false, or-parts, ltb-false, and-parts, false≢true}
-use Rattle.kinds.specs.Group.{Group}
+use Rattle.std.proofs.shelf.Tests.{eqb-true, eqb-false, not-false, or-parts, ltb-false, and-parts, false≢true}
 use Rattle.plans.specs.Groups.{has}
 use Rattle.plans.specs.Layout.{maskOf, tray}
 use Rattle.plans.proofs.Counting.{countBy-cons}

@@ -1,15 +1,12 @@
 -- The cover: random values that hide a difference of keys from harbours that hold no whole group. Assumes nothing.
 use mathlib.Core.Bool.{Bool, cond, not}
-use mathlib.Core.List.{List, [], _∷_, map}
-use mathlib.Core.Path.{_≡_}
-use mathlib.Core.Bool.{true, false}
-use Prim.Native.Nat.{ℕ, _+_, _-_, _≤_, _<_}
-use lib.Count.{ones}
+use mathlib.Core.List.{List, map}
+use Prim.Native.Nat.{ℕ, _+_, _<_}
 use lib.Dec.{eqb}
 use lib.ListN.{length, getD, drop}
-use Rattle.std.specs.shelf.Lists.{All, leading}
+use Rattle.std.specs.shelf.Lists.{leading}
 use Rattle.kinds.specs.Group.{Group}
-use Rattle.plans.specs.Groups.{members, has}
+use Rattle.plans.specs.Groups.{members}
 use Rattle.plans.specs.Layout.{maskOf}
 use Rattle.matrix.specs.Matrix.{Column, key, block, columns, sizeOf}
 use Rattle.sharing.specs.Dealing.{Scheme}

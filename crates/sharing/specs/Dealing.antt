@@ -1,5 +1,4 @@
 -- Dealings, cards, and what a group restores, over any list of groups and any commutative group. Assumes nothing.
-use mathlib.Core.Bool.{cond}
 use mathlib.Core.List.{List, [], _∷_, _++_, map}
 use Prim.Native.Nat.{ℕ, _+_}
 use lib.IntN.{ℤ, pos, negsuc}

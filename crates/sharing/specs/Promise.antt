@@ -1,5 +1,4 @@
 -- The promises for a kind of element, with whatever coding agrees with its meaning. Assumes nothing.
-use mathlib.Core.Path.{_≡_}
 use Prim.Native.Nat.{ℕ}
 use Rattle.kinds.specs.Group.{Group}
 use Rattle.sharing.specs.Elements.{Shift-is-of-elements}

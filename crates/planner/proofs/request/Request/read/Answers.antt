@@ -1,5 +1,5 @@
 -- The three words are numbers, or one of them is none. Assumes nothing.
-use mathlib.Core.Logic.{inl, inr}
+use mathlib.Core.Logic.{inr}
 use Rattle.planner.proofs.request.Request.read.Needs as need
 
 pub returns-in-Break-harbours : need.returns-in-Break-harbours

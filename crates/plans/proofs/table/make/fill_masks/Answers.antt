@@ -1,7 +1,8 @@
 use mathlib.Core.Path.{_≡_, sym, ap, _∙_, subst₂}
 use Prim.Native.Nat.{ℕ, _+_, _^_, _<_}
 use native.Mathlib.Omega.{arith}
-use lib.ListN.{length, length-replicate}
+use borrow.Author.Needs.{needs}
+use lib.ListN.{length, set, length-replicate}
 use Rattle.plans.proofs.Filling.{Filled, end-is, room, filled-takes, filled-passes, filled-all}
 use Rattle.plans.proofs.table.make.fill_masks.Needs as need
 use Rattle.plans.proofs.table.make.fill_masks.Needs.{then-mask-threshold, else-mask-threshold}
@@ -24,7 +25,9 @@ pub loop-mask-again : need.loop-mask-again
 loop-mask-again c =
     elim (c .if-mask-threshold .came) [
       | then-mask-threshold w ↦
-          subst₂ (Filled (c .args .threshold) (c .loop-mask .mask + 1)) (sym (w .count-is)) (sym (w .masks-is))
+          let written : c .if-mask-threshold .masks ≡ set (c .loop-mask .masks) (c .loop-mask .count) (c .loop-mask .mask) = search needs in
+          let counted : c .if-mask-threshold .count ≡ c .loop-mask .count + 1 = search needs in
+          subst₂ (Filled (c .args .threshold) (c .loop-mask .mask + 1)) (sym counted) (sym written)
           (filled-takes (c .args .threshold) (c .loop-mask .mask) (c .loop-mask .count) (c .loop-mask .masks) (c .loop-mask .inv)
           (room (c .args .harbours) (c .args .threshold) (c .loop-mask .mask) (c .loop-mask .count) (c .pre .few) (c .loop-mask-test .taken) (w .if-mask-threshold .taken) (c .loop-mask .inv .0)) (w .if-mask-threshold .taken))
       | else-mask-threshold w ↦
