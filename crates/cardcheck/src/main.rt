@@ -1,4 +1,6 @@
 // A tool for crews: it reads pictures of cards in hexadecimal, one a line, and prints what each comes to.
+#![tactic(auto)]
+
 use crate::judged::kind_in;
 use crate::line::{bytes_of, is_passed_over};
 use crate::said::say;

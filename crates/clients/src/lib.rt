@@ -1,4 +1,6 @@
 // Clients of the calls, proved from their contracts alone.
+#![tactic(auto)]
+
 ghost use Rattle.std.specs.Prelude.{◌≡◌, true, T, ◌↔◌, map, length, IfOk};
 ghost use Rattle.clients.specs.Alike.{SameCard};
 

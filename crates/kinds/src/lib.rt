@@ -1,4 +1,6 @@
 // Kinds of element: what a key and its slips are made of.
+#![tactic(auto)]
+
 pub mod card;
 pub mod dial_number;
 pub mod element;

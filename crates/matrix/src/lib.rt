@@ -1,4 +1,6 @@
 // The distribution matrix of a plan, entry by entry, with the signs by which a group restores the key.
+#![tactic(auto)]
+
 ghost use Rattle.std.specs.Prelude.{◌≡◌, ◌*◌, ◌≤◌, pos, if◌then◌else◌, MatchResult, nat_eq, slice_index_or};
 ghost use Rattle.matrix.specs.Matrix.{columns, key, signed_sum};
 ghost use Rattle.matrix.specs.Numbers.{column_count, entry_at, entry_refusal, row_count, sum_refusal, Numbered};

@@ -1,4 +1,6 @@
 // A tool for a planner of key cards: it reads plans, one a line, and prints what each comes to.
+#![tactic(auto)]
+
 use crate::request::{Request, is_passed_over};
 use crate::sheet::print_plan;
 use plans::plan::Plan;

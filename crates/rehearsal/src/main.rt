@@ -1,4 +1,6 @@
 // A rehearsal of the ceremony: keys of three kinds are dealt, renewed, read and audited, and every call is refused once for each reason.
+#![tactic(auto)]
+
 use crate::ceremony::{Ceremony, print_ceremony};
 use crate::refused::print_refusals;
 use crate::rounds::plan_of;

@@ -1,5 +1,7 @@
 // What is promised of dealings and of every sequence of calls that follows one, for every kind of element.
 // Each function here carries a theorem in its contract; the definitions are those that the calls' own contracts cite.
+#![tactic(auto)]
+
 ghost use Rattle.sharing.specs.Example.{RunsExist};
 ghost use Rattle.sharing.specs.Promise.{Hides, Restores, ShiftsByElements};
 ghost use Rattle.sharing.specs.Restoring.{CoverHides, DealingIsLinear, DealingRestores};

@@ -1,4 +1,6 @@
 // Trays: dealing a key onto cards, renewing them in rounds, reading and auditing them, for every kind of element.
+#![tactic(auto)]
+
 pub mod answer;
 mod dealing;
 pub mod note;

@@ -8,7 +8,7 @@ counted-place-requires c = let placed = c.in-ok-position.ensures in search (rule
 
 pub returns : goal.returns
 returns c =
-    let judged = c.in-ok-judge.ensures in
-    let placed = c.in-ok-position.ensures in
+    let judged = c.in_ok-judge.ensures in
+    let placed = c.in_ok-position.ensures in
     let fits : SFits w8 c.sign.result = search rules in
     (search (rules, find_passes), search (rules, find_place), search (rules, to_z-of_z))

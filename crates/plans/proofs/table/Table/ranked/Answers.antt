@@ -2,16 +2,16 @@ use Rattle.std.proofs.Common.{◌≡◌, ap, ◌∙◌, arith}
 use Rattle.plans.specs.Groups.{members, on_card, weighed}
 use Rattle.plans.proofs.Ranks.{ranked_takes, ranked_passes}
 use Rattle.plans.proofs.table.Table.ranked.Goals as goal
-use Rattle.plans.proofs.table.Table.ranked.Goals.{then-has-bit, else-has-bit}
+use Rattle.plans.proofs.table.Table.ranked.Goals.{then-has_bit, else-has_bit}
 
 pub loop-bit-preserved : goal.loop-bit-preserved
 loop-bit-preserved c =
-    elim c.if-has-bit.branch [
-      | then-has-bit w ↦
-          ranked_takes (on_card c.args.left-out) c.args.mask c.loop-bit.bit c.loop-bit.position c.loop-bit.rank w.adds-rank.result c.if-has-bit.position c.if-has-bit.rank
+    elim c.if-has_bit.branch [
+      | then-has_bit w ↦
+          ranked_takes (on_card c.args.left-out) c.args.mask c.loop-bit.bit c.loop-bit.position c.loop-bit.rank w.adds-rank.result c.if-has_bit.position c.if-has_bit.rank
           c.loop-bit.invariant w.if-has-bit.ensures w.adds-rank.ensures.value w.adds-rank.ensures.few w.position-is w.rank-is
-      | else-has-bit w ↦
-          ranked_passes (on_card c.args.left-out) c.args.mask c.loop-bit.bit c.loop-bit.position c.loop-bit.rank c.if-has-bit.position c.if-has-bit.rank
+      | else-has_bit w ↦
+          ranked_passes (on_card c.args.left-out) c.args.mask c.loop-bit.bit c.loop-bit.position c.loop-bit.rank c.if-has_bit.position c.if-has_bit.rank
           c.loop-bit.invariant w.if-has-bit.ensures w.position-is w.rank-is
     ]
 
@@ -19,6 +19,6 @@ pub returns : goal.returns
 returns c =
     let end : c.loop-bit.bit ≡ c.args.self.now.plan.harbours = omega (arith, c.loop-bit-test.false, c.loop-bit.auto.bit-end, c.harbours-bit-end.ensures) in
     record {
-      value = c.loop-bit.invariant.1 ∙ ap (λ b. weighed (on_card c.args.left-out) 1 (members b c.args.mask)) end;
+      value = c.loop-bit.invariant.1 ∙ ap (λ b. weighed (on_card c.args.left_out) 1 (members b c.args.mask)) end;
       few = omega (arith, end, c.loop-bit.invariant.3, c.args.self.now.plan.few);
     }

@@ -3,4 +3,4 @@ use Rattle.plans.proofs.Ranks.{Ranked}
 use Rattle.plans.proofs.table.Table.ranked.Given as goal
 
 abbrev pub invariant-loop-bit : goal.invariant-loop-bit
-invariant-loop-bit l = Ranked (on_card l.left-out) l.mask l.bit l.position l.rank
+invariant-loop-bit l = Ranked (on_card l.left_out) l.mask l.bit l.position l.rank
