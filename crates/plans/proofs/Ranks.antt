@@ -3,7 +3,7 @@ use Rattle.std.proofs.Common.{◌≡◌, ℕ, zero, suc, ◌+◌, ◌-◌, ◌*�
 use lib.Count.{ones}
 use lib.Dec.{eqb-suc-suc}
 use Rattle.std.specs.List.{range_with_len}
-use Rattle.std.proofs.lemmas.List.Elements.{All-filter, All-weaker}
+use Rattle.std.proofs.lemmas.List.Elements.{All-cons, All-filter, All-head, All-nil, All-tail, All-weaker}
 use Rattle.std.proofs.lemmas.List.{append-nil, length_push}
 use Rattle.std.proofs.lemmas.List.Sums.{length-filter}
 use Rattle.std.proofs.lemmas.Bool.{ne_eqb, lt-ltb, le-ltb, cases_eq, and_left, and_right, true≢false, cases_Bool}
@@ -101,7 +101,9 @@ weighed_push w j (q ∷ ps) p =
 -- two weights that agree on the bits of a list
 pub weighed_alike : (v w : ℕ → ℕ → ℕ) (j : ℕ) (ps : List ℕ) → All (λ p. (i : ℕ) → v p i ≡ w p i) ps → weighed v j ps ≡ weighed w j ps
 weighed_alike v w j [] h = refl
-weighed_alike v w j (p ∷ ps) h = ap₂ ◌+◌ (h.0 j) (weighed_alike v w (suc j) ps h.1)
+weighed_alike v w j (p ∷ ps) h =
+    let same : (x : ℕ) → Type 0 = λ x. (i : ℕ) → v x i ≡ w x i in
+    ap₂ ◌+◌ (All-head same p ps h j) (weighed_alike v w (suc j) ps (All-tail same p ps h))
 
 -- the sum over a mask that has the bit n on top
 weighed_top : (w : ℕ → ℕ → ℕ) (n m x : ℕ) → x < 2 ^ n → m ≡ 2 ^ n + x → weighed w 1 (members (suc n) m) ≡ weighed w 1 (members n x) + w n (suc (ones x))
@@ -154,8 +156,8 @@ pub members_low : (n m : ℕ) → All (λ q. q < n) (members n m)
 members_low n m = All-filter (has m) (λ q. q < n) (range_with_len 0 n) (counting_low 0 n n (omega arith))
   where
     counting_low : (a k n : ℕ) → a + k ≤ n → All (λ q. q < n) (range_with_len a k)
-    counting_low a zero n h = tt
-    counting_low a (suc k) n h = (omega arith, counting_low (a + 1) k n (omega arith))
+    counting_low a zero n h = All-nil (λ q. q < n)
+    counting_low a (suc k) n h = All-cons (λ q. q < n) a (range_with_len (a + 1) k) (omega arith) (counting_low (a + 1) k n (omega arith))
 
 -- A group's place on a card counts the masks below it with as many bits that name the harbour.
 pub card_rank_is : (n m p : ℕ) → m < 2 ^ n → p < n → has m p ≡ true

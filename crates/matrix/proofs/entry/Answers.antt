@@ -6,16 +6,16 @@ use Rattle.matrix.proofs.Numbered.{numbered}
 use Rattle.matrix.proofs.Small.{slips_stay_small, slips_of_a_plan_stay_small}
 use Rattle.matrix.proofs.entry.Goals as goal
 
-pub returns-in-err-inside : goal.returns-in-err-inside
-returns-in-err-inside c = record {
-  value = let p = err_from_is_err_and c.from-residual.result c.from-residual.ensures.1 in rw (p.1, p.2) c.in-err-inside.ensures;
+pub returns-in_err-inside : goal.returns-in_err-inside
+returns-in_err-inside c = record {
+  value = let p = err_from_is_err_and c.from_residual.result c.from_residual.ensures.1 in rw (p.1, p.2) c.in_err-inside.ensures;
   numbered = numbered;
   small = (slips_stay_small, slips_of_a_plan_stay_small);
 }
 
 pub returns : goal.returns
 returns c =
-    let asked = inside (shape_of c.args.plan.now) c.args.row c.args.column c.in-ok-inside.ensures in
-    let value = entry_byte c.args.plan.now c.args.row c.args.column c.threshold.result c.row-label.result c.column-label.result c.marked-one.result c.from.result
-    asked.0 asked.1 c.row-label.ensures c.column-label.ensures c.threshold.ensures c.marked-one.ensures c.from.ensures in
-    record { value = (c.in-ok-inside.ensures, value); numbered = numbered; small = (slips_stay_small, slips_of_a_plan_stay_small) }
+    let asked = inside (shape_of c.args.plan.now) c.args.row c.args.column c.in_ok-inside.ensures in
+    let value = entry_byte c.args.plan.now c.args.row c.args.column c.threshold.result c.row_label.result c.column_label.result c.marked-one.result c.from.result
+    asked.0 asked.1 c.row_label.ensures c.column_label.ensures c.threshold.ensures c.marked-one.ensures c.from.ensures in
+    record { value = (c.in_ok-inside.ensures, value); numbered = numbered; small = (slips_stay_small, slips_of_a_plan_stay_small) }

@@ -7,20 +7,20 @@ use Rattle.matrix.proofs.Entries.{summable, signed_is, key_only_lem}
 use Rattle.matrix.proofs.Restores.{columns_restore}
 use Rattle.matrix.proofs.signed_sum.Goals as goal
 
-pub returns-in-err-summable : goal.returns-in-err-summable
-returns-in-err-summable c = record {
-  value = let p = err_from_is_err_and c.from-residual.result c.from-residual.ensures.1 in rw (p.1, p.2) c.in-err-summable.ensures;
+pub returns-in_err-summable : goal.returns-in_err-summable
+returns-in_err-summable c = record {
+  value = let p = err_from_is_err_and c.from_residual.result c.from_residual.ensures.1 in rw (p.1, p.2) c.in_err-summable.ensures;
   restores = columns_restore;
 }
 
 pub returns : goal.returns
 returns c =
-    let asked = summable (shape_of c.args.plan.now) c.args.group c.args.component c.args.column c.in-ok-summable.ensures in
-    let whole = signed_is c.args.plan.now c.args.group c.args.component c.args.column c.threshold.result c.column-label-label.result
-    asked.0 asked.2 c.column-label-label.ensures c.threshold.ensures in
-    let own = key_only_lem (shape_of c.args.plan.now) c.args.component c.args.column c.column-label-label.result asked.1 c.column-label-label.ensures in
-    let bits = to_z-of_z w8 c.group-sum.result (record { sfits = c.group-sum.type-inv }) in
+    let asked = summable (shape_of c.args.plan.now) c.args.group c.args.component c.args.column c.in_ok-summable.ensures in
+    let whole = signed_is c.args.plan.now c.args.group c.args.component c.args.column c.threshold.result c.column_label-label.result
+    asked.0 asked.2 c.column_label-label.ensures c.threshold.ensures in
+    let own = key_only_lem (shape_of c.args.plan.now) c.args.component c.args.column c.column_label-label.result asked.1 c.column_label-label.ensures in
+    let bits = to_z-of_z w8 c.group_sum.result (record { sfits = c.group_sum.type-inv }) in
     record {
-      value = (c.in-ok-summable.ensures, bits ∙ c.group-sum.ensures.value ∙ whole, bits ∙ c.group-sum.ensures.restores ∙ own);
+      value = (c.in_ok-summable.ensures, bits ∙ c.group_sum.ensures.value ∙ whole, bits ∙ c.group_sum.ensures.restores ∙ own);
       restores = columns_restore;
     }

@@ -13,8 +13,8 @@ returns-then-r-eq0 t c =
 pub returns-then-r-n-2 : goal.returns-then-r-n-2
 returns-then-r-n-2 t c = record { value = sym (choose_past c.args.n c.args.r (search rules)); few = omega arith }
 
-pub overflow-add-result : goal.overflow-add-result
-overflow-add-result t c = search rules
+pub overflow_add-result : goal.overflow_add-result
+overflow_add-result t c = search rules
 
 pub returns : goal.returns
 returns t c =

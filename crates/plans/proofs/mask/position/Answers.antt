@@ -6,14 +6,14 @@ use Rattle.plans.proofs.mask.position.Goals as goal
 within : (c : goal.Else-not-contains) → (1 ≤ c.args.harbour) × (c.args.harbour ≤ 16)
 within c = member_within c.args.mask c.args.harbour c.ranges.mask.fits (sym c.if-not-contains.ensures)
 
-pub overflow-cast-below : goal.overflow-cast-below
-overflow-cast-below c = record { fits = omega (arith, within c) }
+pub overflow_cast-below : goal.overflow_cast-below
+overflow_cast-below c = record { fits = omega (arith, within c) }
 
-pub overflow-shl-below : goal.overflow-shl-below
-overflow-shl-below c = omega (arith, within c)
+pub overflow_shl-below : goal.overflow_shl-below
+overflow_shl-below c = omega (arith, within c)
 
-pub nonzero-rem-below : goal.nonzero-rem-below
-nonzero-rem-below c = let w = within c in search (rules, one_shl, pow_pos)
+pub nonzero_rem-below : goal.nonzero_rem-below
+nonzero_rem-below c = let w = within c in search (rules, one_shl, pow_pos)
 
 pub returns : goal.returns
 returns c = let w = within c in search (rules, one_shl, members_rest)

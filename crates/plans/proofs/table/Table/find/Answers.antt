@@ -3,8 +3,8 @@ use Rattle.std.proofs.lemmas.Int.{to_z-of_z}
 use Rattle.plans.proofs.Finding.{bit_within, find_passes, find_place}
 use Rattle.plans.proofs.table.Table.find.Goals as goal
 
-pub counted-place-requires : goal.counted-place-requires
-counted-place-requires c = let placed = c.in-ok-position.ensures in search (rules, bit_within)
+pub counted_place-requires : goal.counted_place-requires
+counted_place-requires c = let placed = c.in_ok-position.ensures in search (rules, bit_within)
 
 pub returns : goal.returns
 returns c =

@@ -8,11 +8,11 @@ pub loop-bit-preserved : goal.loop-bit-preserved
 loop-bit-preserved c =
     elim c.if-has_bit.branch [
       | then-has_bit w ↦
-          ranked_takes (on_card c.args.left-out) c.args.mask c.loop-bit.bit c.loop-bit.position c.loop-bit.rank w.adds-rank.result c.if-has_bit.position c.if-has_bit.rank
-          c.loop-bit.invariant w.if-has-bit.ensures w.adds-rank.ensures.value w.adds-rank.ensures.few w.position-is w.rank-is
+          ranked_takes (on_card c.args.left_out) c.args.mask c.loop-bit.bit c.loop-bit.position c.loop-bit.rank w.adds-rank.result c.if-has_bit.position c.if-has_bit.rank
+          c.loop-bit.invariant w.if-has_bit.ensures w.adds-rank.ensures.value w.adds-rank.ensures.few w.position-is w.rank-is
       | else-has_bit w ↦
-          ranked_passes (on_card c.args.left-out) c.args.mask c.loop-bit.bit c.loop-bit.position c.loop-bit.rank c.if-has_bit.position c.if-has_bit.rank
-          c.loop-bit.invariant w.if-has-bit.ensures w.position-is w.rank-is
+          ranked_passes (on_card c.args.left_out) c.args.mask c.loop-bit.bit c.loop-bit.position c.loop-bit.rank c.if-has_bit.position c.if-has_bit.rank
+          c.loop-bit.invariant w.if-has_bit.ensures w.position-is w.rank-is
     ]
 
 pub returns : goal.returns

@@ -9,14 +9,14 @@ fits : (c : goal.Then-mask-threshold) → c.loop-mask.count < 252
 fits c =
     room c.args.harbours c.args.threshold c.loop-mask.mask c.loop-mask.count c.requires.few c.loop-mask-test.true c.if-mask-threshold.true c.loop-mask.invariant.0
 
-pub offset-bounds-masks-count : goal.offset-bounds-masks-count
-offset-bounds-masks-count c = record { fits = omega (arith, fits c) }
+pub offset_bounds-masks-count : goal.offset_bounds-masks-count
+offset_bounds-masks-count c = record { fits = omega (arith, fits c) }
 
 pub bounds-masks-count : goal.bounds-masks-count
 bounds-masks-count c = omega (arith, fits c, c.loop-mask.auto.masks, ap length c.requires.clear ∙ length-replicate {A = ℕ} 252 0)
 
-pub overflow-add-count : goal.overflow-add-count
-overflow-add-count c = record { fits = omega (arith, fits c) }
+pub overflow_add-count : goal.overflow_add-count
+overflow_add-count c = record { fits = omega (arith, fits c) }
 
 pub loop-mask-preserved : goal.loop-mask-preserved
 loop-mask-preserved c =
