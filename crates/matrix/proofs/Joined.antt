@@ -1,7 +1,7 @@
 -- Lists that are joined from parts by counting: their length, their places, what holds throughout, and sums over them. Assumes nothing.
 use Rattle.std.proofs.Common.{◌≡◌, ℕ, zero, suc, ◌+◌, ◌*◌, ◌<◌, ◌≤◌, cond, eqb, leb, List, [], ◌∷◌, ◌++◌, map, length, get_or, fold, All, sum_by, sym, refl, ap, ◌∙◌, le_refl, not-suc-le-zero, arith}
 use Rattle.std.specs.List.{range_with_len, flat_map}
-use Rattle.std.proofs.lemmas.List.Elements.{All-append}
+use Rattle.std.proofs.lemmas.List.Elements.{All-append, All-cons, All-nil}
 use Rattle.std.proofs.lemmas.List.{length-append, get_or_append_left, get_or-append-add}
 use Rattle.std.proofs.lemmas.List.Sums.{sum_by-append, sum_by-cons}
 use Rattle.std.proofs.lemmas.Bool.Decides.{nat_tests}
@@ -34,14 +34,15 @@ module _ {X : Type 0} where
       ∙ get_or_joined f w (a + 1) n q r x (q * w + r) d (λ y b. h y (omega arith)) (omega arith) l (omega arith) refl
 
   pub all_joined : (P : X → Type 0) (f : ℕ → List X) (a n : ℕ) → ((x : ℕ) → a ≤ x → x < a + n → All P (f x)) → All P (flat_map f (range_with_len a n))
-  all_joined P f a zero h = tt
+  all_joined P f a zero h = All-nil P
   all_joined P f a (suc n) h =
       All-append P (f a) (flat_map f (range_with_len (a + 1) n)) (h a (le_refl a) (omega arith))
       (all_joined P f (a + 1) n (λ x l u. h x (omega arith) (omega arith)))
 
   pub all_map_counting : (P : X → Type 0) (f : ℕ → X) (a n : ℕ) → ((x : ℕ) → a ≤ x → x < a + n → P (f x)) → All P (map f (range_with_len a n))
-  all_map_counting P f a zero h = tt
-  all_map_counting P f a (suc n) h = (h a (le_refl a) (omega arith), all_map_counting P f (a + 1) n (λ x l u. h x (omega arith) (omega arith)))
+  all_map_counting P f a zero h = All-nil P
+  all_map_counting P f a (suc n) h =
+      All-cons P (f a) (map f (range_with_len (a + 1) n)) (h a (le_refl a) (omega arith)) (all_map_counting P f (a + 1) n (λ x l u. h x (omega arith) (omega arith)))
 
   pub sum_by_map : (g : X → ℕ) (f : ℕ → X) (xs : List ℕ) → sum_by g (map f xs) ≡ sum_by (λ x. g (f x)) xs
   sum_by_map g f xs = go 0 xs

@@ -1,6 +1,7 @@
 -- Slips of zeros and ones stay small. Assumes nothing.
 use Rattle.std.proofs.Common.{◌≡◌, ℕ, ◌+◌, ◌-◌, ◌*◌, ◌^◌, ◌≤◌, Bool, true, false, cond, ◌&&◌, ◌||◌, eqb, leb, List, [], ◌∷◌, map, length, All, sum_by, count_by, refl, ap, ◌∙◌, subst, ⊎_elim, le_trans, le_of_eq, arith}
 use Rattle.std.specs.List.{range_with_len, flat_map}
+use Rattle.std.proofs.lemmas.List.Elements.{All-head, All-tail}
 use Rattle.std.proofs.lemmas.List.Sums.{sum_by-append, sum_by-cons}
 use Rattle.std.proofs.lemmas.Bool.{cases_eq}
 use Rattle.std.proofs.lemmas.Bool.Decides.{nat_tests}
@@ -23,7 +24,8 @@ sum_small : (test : Column → Bool) (js : List Column) (xs : List (Residue (2 ^
 sum_small test [] xs h = omega arith
 sum_small test (j ∷ js) [] h = omega arith
 sum_small test (j ∷ js) (x ∷ xs) h =
-    omega (arith, sum_by-cons (λ y. cond (test y) 1 0) j js, one_input x (test j) h.0, sum_small test js xs h.1)
+    let small : Residue (2 ^ 32) → Type 0 = λ w. w.number ≤ 1 in
+    omega (arith, sum_by-cons (λ y. cond (test y) 1 0) j js, one_input x (test j) (All-head small x xs h), sum_small test js xs (All-tail small x xs h))
 
 -- A test that asks for one component picks at most one column.
 one_picked : (k c : ℕ) (f : ℕ → Column) (test : Column → Bool) (here : Bool) → ((x : ℕ) → test (f x) ≡ (here && eqb c x)) → count_by test (map f (range_with_len 0 k)) ≤ cond here 1 0

@@ -19,7 +19,7 @@ returns c =
     let whole = signed_is c.args.plan.now c.args.group c.args.component c.args.column c.threshold.result c.column_label-label.result
     asked.0 asked.2 c.column_label-label.ensures c.threshold.ensures in
     let own = key_only_lem (shape_of c.args.plan.now) c.args.component c.args.column c.column_label-label.result asked.1 c.column_label-label.ensures in
-    let bits = to_z-of_z w8 c.group_sum.result (record { sfits = c.group_sum.type-inv }) in
+    let bits = to_z-of_z w8 c.group_sum.result (record { sfits = c.group_sum.type_inv }) in
     record {
       value = (c.in_ok-summable.ensures, bits ∙ c.group_sum.ensures.value ∙ whole, bits ∙ c.group_sum.ensures.restores ∙ own);
       restores = columns_restore;

@@ -11,17 +11,17 @@ use Rattle.matrix.proofs.sums.group_sum.Goals as goal
 next : (c : goal.After-signed-sum) → c.loop-i.sum +ℤ c.signed-sum.result ≡ sum_in c.args.threshold (c.loop-i.i + 1) c.args.group c.args.component (column_named c.args.column)
 next c =
     sum_next c.args.threshold c.loop-i.i c.args.group c.args.component (column_named c.args.column) c.loop-i.sum c.signed-sum.result
-    (sym c.loop-i.sum_is ∙ c.loop-i.invariant) c.signed-sum.ensures
+    (sym c.loop-i.sum-is ∙ c.loop-i.invariant) c.signed-sum.ensures
 
 pub overflow_add-sum : goal.overflow_add-sum
 overflow_add-sum c =
-    subst (SFits w8) (sym (ap₂ ◌+ℤ◌ c.loop-i.sum_is (to_z-of_z w8 c.signed-sum.result (record { sfits = c.signed-sum.type-inv }))))
+    subst (SFits w8) (sym (ap₂ ◌+ℤ◌ c.loop-i.sum-is (to_z-of_z w8 c.signed-sum.result (record { sfits = c.signed-sum.type_inv }))))
     (sum_fits c.args.threshold (c.loop-i.i + 1) c.args.group c.args.component (column_named c.args.column) (c.loop-i.sum +ℤ c.signed-sum.result)
     (had c.args.threshold c.args.group c.args.column c.requires.block) (next c))
 
 pub loop-i-preserved : goal.loop-i-preserved
 loop-i-preserved c =
-    to_z-of_z w8 _ (overflow_add-sum c) ∙ ap₂ ◌+ℤ◌ c.loop-i.sum_is (to_z-of_z w8 c.signed-sum.result (record { sfits = c.signed-sum.type-inv })) ∙ next c
+    to_z-of_z w8 _ (overflow_add-sum c) ∙ ap₂ ◌+ℤ◌ c.loop-i.sum-is (to_z-of_z w8 c.signed-sum.result (record { sfits = c.signed-sum.type_inv })) ∙ next c
 
 pub returns : goal.returns
 returns c =
