@@ -3,7 +3,7 @@ use Rattle.std.proofs.Common.{◌≡◌, ℕ, zero, suc, ◌+◌, ◌-◌, ◌^�
 use lib.Count.{ones}
 use Rattle.std.specs.List.{range_with_len, flat_map, prefix_len}
 use Rattle.std.proofs.lemmas.List.FromFn.{length-map-range_with_len, fill_by_all}
-use Rattle.std.proofs.lemmas.List.Elements.{All-append, All-get_or, All-filter, filter_passes}
+use Rattle.std.proofs.lemmas.List.Elements.{All-append, All-get_or, All-filter, All-head, All-nil, All-tail, filter_passes}
 use Rattle.std.proofs.lemmas.List.{map-append, map-id, length-map, get_or_at, take_at, drop_at}
 use Rattle.std.proofs.lemmas.Bool.{true≢false, cases_eq, eq-eqb, ne_eqb, and_from, and_left, and_right, cond-true, cond-false}
 use Rattle.std.proofs.lemmas.Bool.Decides.{nat_tests}
@@ -47,8 +47,8 @@ member_at n mask b lt there =
 -- what holds all along the part of each item, where two facts of each are known, holds all along the parts end to end
 all_parts : {X Y : Type 0} (P : Y → Type 0) (f : X → List Y) (R S : X → Type 0) (xs : List X) → All R xs → All S xs
     → ((x : X) → R x → S x → All P (f x)) → All P (flat_map f xs)
-all_parts P f R S [] r s h = tt
-all_parts P f R S (x ∷ xs) r s h = All-append P (f x) (flat_map f xs) (h x r.0 s.0) (all_parts P f R S xs r.1 s.1 h)
+all_parts P f R S [] r s h = All-nil P
+all_parts P f R S (x ∷ xs) r s h = All-append P (f x) (flat_map f xs) (h x (All-head R x xs r) (All-head S x xs s)) (all_parts P f R S xs (All-tail R x xs r) (All-tail S x xs s) h)
 
 -- What holds of a slip of any group that names a harbour holds all along its card.
 pub all_on_card : (P : Slot → Type 0) (masks : List ℕ) (k b : ℕ)
@@ -84,7 +84,7 @@ columns_blocks masks k = drop_at (map key (range_with_len 0 k)) (blocks masks k)
 module _ (G : Group) where
   pub all_nil : {X : Type 0} (f : X → G.Value) (xs : List X) → All (λ x. f x ≡ G.nil) xs → map f xs ≡ zeros G (length xs)
   all_nil f [] h = refl
-  all_nil f (x ∷ xs) h = ap₂ (λ y ys. y ∷ ys) h.0 (all_nil f xs h.1)
+  all_nil f (x ∷ xs) h = ap₂ (λ y ys. y ∷ ys) (All-head (λ y. f y ≡ G.nil) x xs h) (all_nil f xs (All-tail (λ y. f y ≡ G.nil) x xs h))
 
   pub sum_at_map : {X : Type 0} (test : Column → Bool) (to : X → Column) (f : X → G.Value) (xs : List X)
       → sum_at G test (map to xs) (map f xs) ≡ total G (map (λ x. cond (test (to x)) (f x) G.nil) xs)

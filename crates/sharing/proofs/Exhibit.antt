@@ -1,7 +1,8 @@
 -- The worked example of secrecy, by computing. Assumes nothing.
-use Rattle.std.proofs.Common.{◌≡◌, ℕ, zero, suc, ◌+◌, ◌<◌, true, false, cond, List, [], ◌∷◌, map, get_or, sym, refl, ap, subst, ap₂, arith, lit<, lit≤}
+use Rattle.std.proofs.Common.{◌≡◌, ℕ, zero, suc, ◌+◌, ◌<◌, ◌≤◌, ◌^◌, true, false, cond, List, [], ◌∷◌, map, get_or, sym, refl, ap, subst, ap₂, arith, lit<, lit≤}
 use lib.Count.{ones, ones_in}
 use Rattle.std.specs.List.{prefix_len}
+use Rattle.std.proofs.lemmas.List.Elements.{All-from_recursion}
 use Rattle.std.proofs.lemmas.Bool.{ne_eqb}
 use Rattle.kinds.specs.Kinds.{dial}
 use Rattle.kinds.specs.Residue.{Residue, same_residue}
@@ -146,7 +147,7 @@ pub runs_exist : RunsExist
 unfolding ones ones_in
 runs_exist = (
   (λ a b. (same_residue a b, ap (λ r. r.number))),
-  ((lit≤ tt, lit< tt), ((lit≤ tt, lit< tt), ((lit≤ tt, lit< tt), tt))),
+  All-from_recursion (λ m. (1 ≤ ones m) × (m < 2 ^ 3)) (3 ∷ 5 ∷ 6 ∷ []) ((lit≤ tt, lit< tt), ((lit≤ tt, lit< tt), ((lit≤ tt, lit< tt), tt))),
   refl,
   hidden,
   first_run,

@@ -1,6 +1,6 @@
 -- The shift is one of elements. Assumes nothing.
 use Rattle.std.proofs.Common.{◌≡◌, ℕ, zero, suc, ◌+◌, Bool, true, false, cond, eqb, List, [], ◌∷◌, get_or, drop, All, refl, ap, ◌∙◌, ap₂}
-use Rattle.std.proofs.lemmas.List.Elements.{All-append, All-map}
+use Rattle.std.proofs.lemmas.List.Elements.{All-append, All-cons, All-head, All-map, All-nil, All-tail}
 use Rattle.matrix.specs.Matrix.{Column, key, block, columns, size_of}
 use Rattle.sharing.specs.Calls.{fresh, Told, draw, apply, discard, read, picture, reissue, audit, refusal, Turn, own, other, after_turn}
 use Rattle.sharing.specs.Cover.{Readers, cover_at, cover, first_unread}
@@ -31,7 +31,10 @@ module _ {E : Type 0} (K : Kind E) (m : Makes K) where
   gathered : (vs : List K.group.Value) → All Reached vs → (xs : List E) × (values K xs ≡ vs)
   unfolding Reached
   gathered [] a = ([], refl)
-  gathered (v ∷ vs) a = let rest = gathered vs a.1 in (a.0.0 ∷ rest.0, ap₂ ◌∷◌ a.0.1 rest.1)
+  gathered (v ∷ vs) a =
+      let first = All-head Reached v vs a in
+      let rest = gathered vs (All-tail Reached v vs a) in
+      (first.0 ∷ rest.0, ap₂ ◌∷◌ first.1 rest.1)
 
   given_reached : (d : List E) (c : ℕ) → Reached (get_or (values K d) c K.group.nil)
   unfolding Reached
@@ -40,13 +43,16 @@ module _ {E : Type 0} (K : Kind E) (m : Makes K) where
   given_reached (x ∷ d) (suc c) = given_reached d c
 
   added_reached : (vs ws : List K.group.Value) → All Reached vs → All Reached ws → All Reached (added K.group vs ws)
-  added_reached [] ws a b = tt
-  added_reached (v ∷ vs) [] a b = tt
-  added_reached (v ∷ vs) (w ∷ ws) a b = (plus_reached v w a.0 b.0, added_reached vs ws a.1 b.1)
+  added_reached [] ws a b = All-nil Reached
+  added_reached (v ∷ vs) [] a b = All-nil Reached
+  added_reached (v ∷ vs) (w ∷ ws) a b =
+      All-cons Reached (K.group.plus v w) (added K.group vs ws) (plus_reached v w (All-head Reached v vs a) (All-head Reached w ws b))
+      (added_reached vs ws (All-tail Reached v vs a) (All-tail Reached w ws b))
 
   opposed_reached : (vs : List K.group.Value) → All Reached vs → All Reached (opposed K.group vs)
-  opposed_reached [] a = tt
-  opposed_reached (v ∷ vs) a = (minus_reached v a.0, opposed_reached vs a.1)
+  opposed_reached [] a = All-nil Reached
+  opposed_reached (v ∷ vs) a =
+      All-cons Reached (K.group.minus v) (opposed K.group vs) (minus_reached v (All-head Reached v vs a)) (opposed_reached vs (All-tail Reached v vs a))
 
   cover_reached : (s : Scheme) (by : Readers) (d : List E) → All Reached (cover K.group s by (values K d))
   cover_reached s by d =
@@ -66,17 +72,17 @@ module _ {E : Type 0} (K : Kind E) (m : Makes K) where
     where
       go : (b : Bool) → All Reached (cond b (added K.group (cover K.group t.scheme (by (t.round + 1)) (values K d)) (opposed K.group (cover K.group t.scheme (by t.round) (values K d)))) [])
       go true = added_reached (cover K.group t.scheme (by (t.round + 1)) (values K d)) (opposed K.group (cover K.group t.scheme (by t.round) (values K d))) (cover_reached t.scheme (by (t.round + 1)) d) (opposed_reached (cover K.group t.scheme (by t.round) (values K d)) (cover_reached t.scheme (by t.round) d))
-      go false = tt
-  turn_reached by d t (own (apply note tray sheet)) = tt
-  turn_reached by d t (own (discard note sheet)) = tt
-  turn_reached by d t (own (read harbour tray)) = tt
-  turn_reached by d t (own (picture harbour tray place)) = tt
-  turn_reached by d t (own (reissue harbour tray working)) = tt
-  turn_reached by d t (own (audit tray)) = tt
-  turn_reached by d t (other u c) = tt
+      go false = All-nil Reached
+  turn_reached by d t (own (apply note tray sheet)) = All-nil Reached
+  turn_reached by d t (own (discard note sheet)) = All-nil Reached
+  turn_reached by d t (own (read harbour tray)) = All-nil Reached
+  turn_reached by d t (own (picture harbour tray place)) = All-nil Reached
+  turn_reached by d t (own (reissue harbour tray working)) = All-nil Reached
+  turn_reached by d t (own (audit tray)) = All-nil Reached
+  turn_reached by d t (other u c) = All-nil Reached
 
   shifts_reached : (by : ℕ → Readers) (d : List E) (t : Told) (turns : List Turn) → All Reached (shifts K.group K.width by (values K d) t turns)
-  shifts_reached by d t [] = tt
+  shifts_reached by d t [] = All-nil Reached
   shifts_reached by d t (x ∷ xs) =
       All-append Reached (turn_shift K.group K.width by (values K d) t x) (shifts K.group K.width by (values K d) (after_turn K.width t x) xs)
       (turn_reached by d t x) (shifts_reached by d (after_turn K.width t x) xs)

@@ -3,7 +3,7 @@ use Rattle.std.proofs.Common.{◌≡◌, ℕ, zero, suc, ◌+◌, ◌-◌, ◌^�
 use lib.Count.{ones}
 use Rattle.std.specs.List.{range_with_len, flat_map}
 use Rattle.std.proofs.lemmas.List.FromFn.{length-map-range_with_len, fill_by_all}
-use Rattle.std.proofs.lemmas.List.Elements.{All-get_or, All-weaker, filter_passes}
+use Rattle.std.proofs.lemmas.List.Elements.{All-get_or, All-head, All-tail, All-weaker, filter_passes}
 use Rattle.std.proofs.lemmas.List.{append-nil, get_or-map, length_push, map_push}
 use Rattle.std.proofs.lemmas.Bool.{eq-eqb, ne_eqb, eqb-true, and_parts}
 use Rattle.kinds.specs.Group.{Group}
@@ -30,12 +30,13 @@ module _ (G : Group) where
   exchange at test only [] xs a = total_nil G (λ i. under G (sign i) G.nil) at (all_of (λ i. under G (sign i) G.nil ≡ G.nil) (λ i. under_nil G (sign i)) at)
   exchange at test only (j ∷ js) [] a = total_nil G (λ i. under G (sign i) G.nil) at (all_of (λ i. under G (sign i) G.nil ≡ G.nil) (λ i. under_nil G (sign i)) at)
   exchange at test only (j ∷ js) (x ∷ xs) a =
+      let sums : Column → Type 0 = λ l. (y : G.Value) → total G (map (λ i. under G (sign i) (cond (test i l) y G.nil)) at) ≡ cond (only l) y G.nil in
       ap (total G)
       (map_same (λ i. under G (sign i) (G.plus (cond (test i j) x G.nil) (sum_at G (test i) js xs)))
       (λ i. G.plus (under G (sign i) (cond (test i j) x G.nil)) (under G (sign i) (sum_at G (test i) js xs))) at
       (λ i. under_plus G (sign i) (cond (test i j) x G.nil) (sum_at G (test i) js xs)))
       ∙ total_plus G (λ i. under G (sign i) (cond (test i j) x G.nil)) (λ i. under G (sign i) (sum_at G (test i) js xs)) at
-      ∙ ap₂ G.plus (a.0 x) (exchange at test only js xs a.1)
+      ∙ ap₂ G.plus (All-head sums j js a x) (exchange at test only js xs (All-tail sums j js a))
 
   -- the columns of the key's component c
   pub key_test : ℕ → Column → Bool
@@ -100,7 +101,7 @@ module _ (G : Group) where
   sum_at_none test [] xs a = refl
   sum_at_none test (j ∷ js) [] a = refl
   sum_at_none test (j ∷ js) (x ∷ xs) a =
-      ap₂ (λ t y. G.plus (cond t x G.nil) y) a.0 (sum_at_none test js xs a.1) ∙ G.unit G.nil
+      ap₂ (λ t y. G.plus (cond t x G.nil) y) (All-head (λ k. test k ≡ false) j js a) (sum_at_none test js xs (All-tail (λ k. test k ≡ false) j js a)) ∙ G.unit G.nil
 
   -- of the key's columns only one counts
   key_none : (c a n : ℕ) (xs : List G.Value) → c < a → sum_at G (key_test c) (map key (range_with_len a n)) xs ≡ G.nil
@@ -177,8 +178,7 @@ pub member_facts : (n mask : ℕ) → All (λ b. (b < n) × (has mask b ≡ true
 member_facts n mask = both (members n mask) (members_low n mask) (filter_passes (has mask) (range_with_len 0 n))
   where
     both : (xs : List ℕ) → All (λ b. b < n) xs → All (λ b. has mask b ≡ true) xs → All (λ b. (b < n) × (has mask b ≡ true)) xs
-    both [] p q = tt
-    both (x ∷ xs) p q = ((p.0, q.0), both xs p.1 q.1)
+    both xs p q k d lt = (p k d lt, q k d lt)
 
 module _ (G : Group) (s : Scheme) where
   -- a slip of a dealing, at its place in the tray

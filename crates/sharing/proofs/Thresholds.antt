@@ -1,8 +1,8 @@
 -- Fewer than t harbours hold no group of t, and the opposite shift. Assumes nothing.
-use Rattle.std.proofs.Common.{◌≡◌, ℕ, suc, ◌+◌, ◌^◌, ◌<◌, ◌≤◌, Bool, true, false, cond, eqb, List, [], ◌∷◌, ◌++◌, length, All, count_by, filter, sym, refl, ap, ◌∙◌, ap₂, ⊎_elim, arith}
+use Rattle.std.proofs.Common.{◌≡◌, ℕ, suc, ◌+◌, ◌^◌, ◌<◌, ◌≤◌, Bool, true, false, cond, eqb, List, [], ◌∷◌, ◌++◌, length, All, count_by, filter, get_or, sym, refl, ap, ◌∙◌, ap₂, ⊎_elim, arith}
 use lib.Count.{ones}
 use Rattle.std.specs.List.{range_with_len, prefix_len}
-use Rattle.std.proofs.lemmas.List.Elements.{All-get_or, All-filter, All-weaker, filter_passes}
+use Rattle.std.proofs.lemmas.List.Elements.{All-cons, All-get_or, All-filter, All-head, All-nil, All-tail, All-weaker, filter_passes}
 use Rattle.std.proofs.lemmas.List.Sums.{length-filter}
 use Rattle.std.proofs.lemmas.Bool.{cases_lt, eqb-true}
 use Rattle.kinds.specs.Group.{Group}
@@ -25,11 +25,11 @@ use Rattle.sharing.proofs.Secrets.{secrecy}
 
 -- a front that reaches the end passes throughout
 leading_all : (p : ℕ → Bool) (xs : List ℕ) → length xs ≤ prefix_len p xs → All (λ x. p x ≡ true) xs
-leading_all p [] le = tt
+leading_all p [] le = All-nil (λ x. p x ≡ true)
 leading_all p (x ∷ xs) le = go (λ h. leading_all p xs h) (p x) refl
   where
-    go : (length xs ≤ prefix_len p xs → All (λ y. p y ≡ true) xs) → (b : Bool) → p x ≡ b → (p x ≡ true) × All (λ y. p y ≡ true) xs
-    go rest true e = (e, rest (reach e le))
+    go : (length xs ≤ prefix_len p xs → All (λ y. p y ≡ true) xs) → (b : Bool) → p x ≡ b → All (λ y. p y ≡ true) (x ∷ xs)
+    go rest true e = All-cons (λ y. p y ≡ true) x xs e (rest (reach e le))
       where
         reach : p x ≡ true → suc (length xs) ≤ cond (p x) (1 + prefix_len p xs) 0 → length xs ≤ prefix_len p xs
         reach e' h = let is : cond (p x) (1 + prefix_len p xs) 0 ≡ 1 + prefix_len p xs = ap (λ b. cond b (1 + prefix_len p xs) 0) e' in omega arith
@@ -47,8 +47,8 @@ count_read p q (x ∷ xs) a = go (λ h. count_read p q xs h) (p x) refl a
         → All (λ y. q y ≡ true) (cond b (x ∷ filter p xs) (filter p xs)) → count_by p (x ∷ xs) ≤ count_by q (x ∷ xs)
     go rest true e h =
         let one : ◌≡◌ {A = ℕ} (cond (p x) 1 0) 1 = ap (λ b. cond b 1 0) e in
-        let too : ◌≡◌ {A = ℕ} (cond (q x) 1 0) 1 = ap (λ b. cond b 1 0) h.0 in
-        omega (arith, count_by_cons p x xs, count_by_cons q x xs, rest h.1)
+        let too : ◌≡◌ {A = ℕ} (cond (q x) 1 0) 1 = ap (λ b. cond b 1 0) (All-head (λ y. q y ≡ true) x (filter p xs) h) in
+        omega (arith, count_by_cons p x xs, count_by_cons q x xs, rest (All-tail (λ y. q y ≡ true) x (filter p xs) h))
     go rest false e h =
         let none : ◌≡◌ {A = ℕ} (cond (p x) 1 0) 0 = ap (λ b. cond b 1 0) e in
         omega (arith, count_by_cons p x xs, count_by_cons q x xs, rest h)
@@ -60,8 +60,7 @@ plan_masks p =
     (All-filter (λ m. eqb (ones m) p.threshold) (λ m. m < 2 ^ p.harbours) (range_with_len 0 (2 ^ p.harbours)) (all_counting (λ m. m < 2 ^ p.harbours) 0 (2 ^ p.harbours) (λ m l u. omega arith)))
   where
     both : (xs : List ℕ) → All (λ m. eqb (ones m) p.threshold ≡ true) xs → All (λ m. m < 2 ^ p.harbours) xs → All (λ m. (ones m ≡ p.threshold) × (m < 2 ^ p.harbours)) xs
-    both [] a b = tt
-    both (x ∷ xs) a b = ((eqb-true (ones x) p.threshold a.0, b.0), both xs a.1 b.1)
+    both xs a b k d lt = (eqb-true (ones (get_or xs k d)) p.threshold (a k d lt), b k d lt)
 
 pub plan_sound : (p : Plan) → Sound (scheme_of p)
 plan_sound p = All-weaker (λ m. (ones m ≡ p.threshold) × (m < 2 ^ p.harbours)) (λ m. (1 ≤ ones m) × (m < 2 ^ p.harbours)) (λ m h. (omega (arith, h.0, p.someone), h.1)) (masks_of (shape_of p)) (plan_masks p)

@@ -2,6 +2,7 @@
 use Rattle.std.proofs.Common.{◌≡◌, ℕ, zero, suc, ◌+◌, ◌<◌, ◌≤◌, List, [], ◌∷◌, ◌++◌, map, ℤ, pos, negsuc, All, sym, refl, ap, ◌∙◌, ap₂, ⊎_elim, arith}
 use Rattle.std.specs.List.{range_with_len, flat_map}
 use Rattle.std.proofs.lemmas.List.{map-append}
+use Rattle.std.proofs.lemmas.List.Elements.{All-head, All-tail}
 use Rattle.std.proofs.lemmas.Bool.{cases_eq}
 use Rattle.kinds.specs.Group.{Group}
 use Rattle.kinds.proofs.Groups.{left_unit, left_comm, cancel_left, middle_four, minus_nil, minus_minus, minus_plus}
@@ -51,7 +52,8 @@ module _ (G : Group) where
 
   pub total_nil : {X : Type 0} (f : X → G.Value) (xs : List X) → All (λ x. f x ≡ G.nil) xs → total G (map f xs) ≡ G.nil
   total_nil f [] a = refl
-  total_nil f (x ∷ xs) a = ap₂ G.plus a.0 (total_nil f xs a.1) ∙ G.unit G.nil
+  total_nil f (x ∷ xs) a =
+      ap₂ G.plus (All-head (λ y. f y ≡ G.nil) x xs a) (total_nil f xs (All-tail (λ y. f y ≡ G.nil) x xs a)) ∙ G.unit G.nil
 
   -- part by part
   pub total_joined : {X Y : Type 0} (q : Y → G.Value) (f : X → List Y) (xs : List X)
