@@ -28,7 +28,8 @@ pub trait Card: Element {
     // The element's code. Every code has so many bits; of any two elements, the codes are equal exactly if the meanings are.
     fn code(&self) -> u32
         ensures value { result ≡ coded self.now }
-        ensures fits { (e : Self) → coded e < 2 ^ bits }
+        ensures fits { result < 2 ^ bits }
+        ensures all_fit { (e : Self) → coded e < 2 ^ bits }
         ensures means { (a b : Self) → (coded a ≡ coded b) ↔ (Self.Element.meaning a ≡ Self.Element.meaning b) };
 
     // An element with this code, refused just where there is none.

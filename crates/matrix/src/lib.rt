@@ -6,6 +6,7 @@ ghost use Rattle.matrix.specs.Matrix.{columns, key, signed_sum};
 ghost use Rattle.matrix.specs.Numbers.{column_count, entry_at, entry_refusal, row_count, sum_refusal, Numbered};
 ghost use Rattle.matrix.specs.Restores.{ColumnsRestore};
 ghost use Rattle.matrix.specs.Small.{SlipsStaySmall, SlipsOfAPlanStaySmall};
+ghost use Rattle.matrix.specs.Worked.{Worked};
 ghost use Rattle.plans.specs.Refusals.{number_of};
 ghost use Rattle.plans.specs.Shape.{group_count, masks_of, shape_of};
 
@@ -86,6 +87,13 @@ pub fn signed_sum(plan: &Plan, group: usize, component: usize, column: usize) ->
     summable(plan, group, component, column)?;
     let label = column_label(plan, column);
     Ok(group_sum(plan.threshold(), group, component, label))
+}
+
+// The worked cases hold of the definitions.
+pub fn worked_cases() -> u8
+    ensures { Worked }
+{
+    0
 }
 
 #[cfg(test)]

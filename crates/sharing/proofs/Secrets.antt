@@ -7,7 +7,7 @@ use Rattle.kinds.specs.Group.{Group}
 use Rattle.sharing.specs.Calls.{fresh, Told, Call, draw, apply, discard, read, picture, reissue, audit, refusal, after, Turn, own, other, after_turn, taken_by, takes, random_count}
 use Rattle.sharing.specs.Cover.{Readers, cover, HoldNoGroup}
 use Rattle.sharing.specs.Dealing.{Scheme, dealing, added, opposed}
-use Rattle.sharing.specs.Secrecy.{Sound, Agrees, ask_pictures, asks_picture, hands_out, reads_in, readers, turn_shift, shifts, read_in, Secrecy}
+use Rattle.sharing.specs.Secrecy.{Sound, Agrees, ask_pictures, asks_picture, hands_out, reads_in, readers, turn_shift, shifts, read_in, SecrecyAsAsked}
 use Rattle.sharing.specs.Steps.{Kind, Seen, State, values, Step, Run, Dealt}
 use Rattle.sharing.proofs.Covering.{cover_length}
 use Rattle.sharing.proofs.Hiding.{Beside, call_hides, stays}
@@ -161,8 +161,8 @@ dealt_kept K scheme issue key random s dealt = record {
   sheet_is = λ e. absurd (false≢true e);
 }
 
-pub secrecy : {E : Type 0} (K : Kind E) → Secrecy K
-secrecy {E} K scheme issue turns d sound d_long agree hold key₁ key₂ dealt₁ dealt₂ drawn₁ drawn₂ s₁ s₂ e₁ e₂ seen₁ seen₂ deal₁ run₁ deal₂ run₂ keys dealts drawns =
+pub secrecy_as_asked : {E : Type 0} (K : Kind E) → SecrecyAsAsked K
+secrecy_as_asked {E} K scheme issue turns d sound d_long agree hold key₁ key₂ dealt₁ dealt₂ drawn₁ drawn₂ s₁ s₂ e₁ e₂ seen₁ seen₂ deal₁ run₁ deal₂ run₂ keys dealts drawns =
     let t : Told = fresh scheme issue in
     let G : Group = K.group in
     let by : ℕ → Readers = read_in K.width scheme issue turns in

@@ -17,11 +17,11 @@ use Rattle.sharing.specs.Cover.{Readers, cover, HoldNoGroup}
 use Rattle.sharing.specs.Dealing.{added, opposed}
 use Rattle.sharing.specs.Secrecy.{Sound, turn_shift, shifts, read_in, OppositeUndoes}
 use Rattle.sharing.specs.Steps.{Kind}
-use Rattle.sharing.specs.Threshold.{scheme_of, read_count, SecrecyOfPlans}
+use Rattle.sharing.specs.Threshold.{scheme_of, read_count, SecrecyOfPlansAsAsked}
 use Rattle.sharing.proofs.Alike.{all_counting}
 use Rattle.sharing.proofs.Covering.{cover_opposed}
 use Rattle.sharing.proofs.Linear.{opposed_added, opposed_append}
-use Rattle.sharing.proofs.Secrets.{secrecy}
+use Rattle.sharing.proofs.Secrets.{secrecy_as_asked}
 
 -- a front that reaches the end passes throughout
 leading_all : (p : ℕ → Bool) (xs : List ℕ) → length xs ≤ prefix_len p xs → All (λ x. p x ≡ true) xs
@@ -84,9 +84,9 @@ few_hold_none p by few g lt =
           count_read (has mask) by (range_with_len 0 p.harbours) (leading_all by (members p.harbours mask) le),
         )
 
-pub secrecy_of_plans : {E : Type 0} (K : Kind E) → SecrecyOfPlans K
-secrecy_of_plans K p issue turns d long agree few =
-    secrecy K (scheme_of p) issue turns d (plan_sound p) long agree (λ round. few_hold_none p (read_in K.width (scheme_of p) issue turns round) (few round))
+pub secrecy_of_plans_as_asked : {E : Type 0} (K : Kind E) → SecrecyOfPlansAsAsked K
+secrecy_of_plans_as_asked K p issue turns d long agree few =
+    secrecy_as_asked K (scheme_of p) issue turns d (plan_sound p) long agree (λ round. few_hold_none p (read_in K.width (scheme_of p) issue turns round) (few round))
 
 module _ (G : Group) where
   turn_opposed : (w : ℕ) (by : ℕ → Readers) (d : List G.Value) (t : Told) (x : Turn) → turn_shift G w by (opposed G d) t x ≡ opposed G (turn_shift G w by d t x)

@@ -1,13 +1,15 @@
 -- A card's picture: its fields and codes, packed most significant bit first. Assumes nothing.
 use Rattle.std.specs.Prelude.{ℕ, zero, suc, ◌+◌, ◌-◌, ◌*◌, ◌/◌, ◌%◌, ◌^◌, List, [], ◌∷◌, ◌++◌, length}
 
--- The lowest n digits of a number in a base, the highest first.
+-- The lowest n digits of a number in base 256, the highest first.
+abbrev pub bytes_of : ℕ → ℕ → List ℕ
+bytes_of zero x = []
+bytes_of (suc n) x = (x / 256 ^ n) % 256 ∷ bytes_of n x
+
+-- The lowest n digits of a number in any base, the highest first.
 abbrev pub digits : ℕ → ℕ → ℕ → List ℕ
 digits base zero x = []
 digits base (suc n) x = (x / base ^ n) % base ∷ digits base n x
-
-abbrev pub bytes_of : ℕ → ℕ → List ℕ
-bytes_of n x = digits 256 n x
 
 -- The number that codes of so many bits make, one behind the other, behind a number that is there.
 abbrev pub packed : ℕ → ℕ → List ℕ → ℕ
@@ -39,7 +41,8 @@ filling width n = 8 * body_length width n - width * n
 
 -- The codes, and then 0 bits to the end of the byte.
 abbrev pub body_bytes : ℕ → List ℕ → List ℕ
-body_bytes width codes = bytes_of (body_length width (length codes)) (packed width 0 codes * 2 ^ filling width (length codes))
+body_bytes width codes =
+    bytes_of (body_length width (length codes)) (packed width 0 codes * 2 ^ (8 * body_length width (length codes) - width * length codes))
 
 -- The picture of a card.
 abbrev pub picture : ℕ → Head → List ℕ → List ℕ

@@ -90,9 +90,15 @@ LooksTheSame {E} K scheme issue turns d =
     → values K drawn₂ ≡ added K.group (values K drawn₁) (draw_shift K.group K.width scheme issue turns d)
     → seen₁ ≡ seen₂
 
--- Secrecy: where no round's readers hold a whole group, the two runs look the same. Code and meaning have to agree only where pictures are asked for.
+-- Secrecy: where no round's readers hold a whole group, the two runs look the same.
 abbrev pub Secrecy : {E : Type 0} → Kind E → Type 0
 Secrecy K =
+    (scheme : Scheme) (issue : ℕ) (turns : List Turn) (d : List K.group.Value) → Sound scheme → length d ≡ scheme.components
+    → ((round : ℕ) → HoldNoGroup scheme (read_in K.width scheme issue turns round)) → LooksTheSame K scheme issue turns d
+
+-- The same, where code and meaning have to agree only if pictures are asked for.
+abbrev pub SecrecyAsAsked : {E : Type 0} → Kind E → Type 0
+SecrecyAsAsked K =
     (scheme : Scheme) (issue : ℕ) (turns : List Turn) (d : List K.group.Value) → Sound scheme → length d ≡ scheme.components
     → (ask_pictures turns ≡ true → Agrees K) → ((round : ℕ) → HoldNoGroup scheme (read_in K.width scheme issue turns round))
     → LooksTheSame K scheme issue turns d

@@ -20,6 +20,13 @@ read_count n by = length (filter by (range_with_len 0 n))
 -- Secrecy of plans: where fewer than t harbours are read in each round, the two runs look the same.
 abbrev pub SecrecyOfPlans : {E : Type 0} → Kind E → Type 0
 SecrecyOfPlans K =
+    (p : Plan) (issue : ℕ) (turns : List Turn) (d : List K.group.Value) → length d ≡ p.components
+    → ((round : ℕ) → read_count p.harbours (read_in K.width (scheme_of p) issue turns round) < p.threshold)
+    → LooksTheSame K (scheme_of p) issue turns d
+
+-- The same, where code and meaning have to agree only if pictures are asked for.
+abbrev pub SecrecyOfPlansAsAsked : {E : Type 0} → Kind E → Type 0
+SecrecyOfPlansAsAsked K =
     (p : Plan) (issue : ℕ) (turns : List Turn) (d : List K.group.Value) → length d ≡ p.components → (ask_pictures turns ≡ true → Agrees K)
     → ((round : ℕ) → read_count p.harbours (read_in K.width (scheme_of p) issue turns round) < p.threshold)
     → LooksTheSame K (scheme_of p) issue turns d

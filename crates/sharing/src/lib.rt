@@ -3,7 +3,7 @@
 #![tactic(auto)]
 
 ghost use Rattle.sharing.specs.Example.{RunsExist};
-ghost use Rattle.sharing.specs.Promise.{Hides, Restores, ShiftsByElements};
+ghost use Rattle.sharing.specs.Promise.{Hides, HidesAsAsked, Restores, ShiftsByElements};
 ghost use Rattle.sharing.specs.Restoring.{CoverHides, DealingIsLinear, DealingRestores};
 ghost use Rattle.sharing.specs.Secrecy.{OppositeUndoes};
 ghost use Rattle.sharing.specs.Worked.{WorkedCases};
@@ -29,6 +29,7 @@ pub fn cover_hides<E: Element>()
 // Whoever reads no whole group in any round, or fewer than t harbours of a plan, learns nothing from any run.
 pub fn runs_hide<E: Element>()
     ensures hides { Hides E.Element.group E.Element.meaning }
+    ensures as_asked { HidesAsAsked E.Element.group E.Element.meaning }
     ensures undoes { OppositeUndoes E.Element.group }
 {}
 

@@ -4,4 +4,4 @@ use Rattle.kinds.proofs.Means.{means}
 use Rattle.kinds.proofs.dial_number.DialNumberCard.code.Goals as goal
 
 pub returns : goal.returns
-returns c = record { value = omega arith; fits = omega arith; means = λ a b. means 10000 (lit< tt) a.held b.held }
+returns c = record { value = omega arith; fits = omega arith; all_fit = omega arith; means = λ a b. means 10000 (lit< tt) a.held b.held }

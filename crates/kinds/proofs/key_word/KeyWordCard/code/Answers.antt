@@ -4,4 +4,4 @@ use Rattle.kinds.proofs.Means.{means}
 use Rattle.kinds.proofs.key_word.KeyWordCard.code.Goals as goal
 
 pub returns : goal.returns
-returns c = record { value = omega arith; fits = omega arith; means = λ a b. means (2 ^ 32) (pow_pos 32) a.value b.value }
+returns c = record { value = omega arith; fits = omega arith; all_fit = omega arith; means = λ a b. means (2 ^ 32) (pow_pos 32) a.value b.value }
