@@ -8,7 +8,7 @@ use Rattle.plans.specs.Layout.{card}
 use Rattle.plans.specs.declared.plan.Plan.{Plan}
 use Rattle.sharing.specs.Calls.{Told, fresh, own, random_count, read, refusal, taken_by, tray_length}
 use Rattle.sharing.specs.Dealing.{Scheme, added, card_in, card_start}
-use Rattle.sharing.specs.Promise.{Hides, kind_of}
+use Rattle.sharing.specs.Promise.{HidesAsAsked, kind_of}
 use Rattle.sharing.specs.Secrecy.{deal_shift, read_in}
 use Rattle.sharing.specs.Steps.{Dealt, Kind, Run, Seen, State, Step, agrees, differs, done, handed, noted, pictured, refused, reissued, stale, wiped}
 use Rattle.sharing.specs.Threshold.{read_count, scheme_of}
@@ -91,7 +91,7 @@ module _ {E : Type 0} (G : Group) (m : E → G.Value) (p : Plan) (issue harbour 
       )
 
   -- The two cards mean the same.
-  pub cards_alike : Hides G m → (key₁ random₁ card₁ key₂ random₂ card₂ : List E) (s₁ s₂ : State E)
+  pub cards_alike : HidesAsAsked G m → (key₁ random₁ card₁ key₂ random₂ card₂ : List E) (s₁ s₂ : State E)
       → Dealt kind (scheme_of p) issue key₁ random₁ s₁ → Step kind s₁ (own (read harbour (length s₁.tray))) [] (handed (map m card₁)) s₁
       → Dealt kind (scheme_of p) issue key₂ random₂ s₂ → Step kind s₂ (own (read harbour (length s₂.tray))) [] (handed (map m card₂)) s₂
       → (d : List G.Value) → length d ≡ p.components → 2 ≤ p.threshold → map m key₂ ≡ added G (map m key₁) d

@@ -1,6 +1,6 @@
 ghost use Rattle.std.specs.Prelude.{◌≡◌, MatchResult};
 ghost use Rattle.sharing.specs.Calls.{deal_refusal};
-ghost use Rattle.sharing.specs.Promise.{Hides, Restores};
+ghost use Rattle.sharing.specs.Promise.{HidesAsAsked, Restores};
 ghost use Rattle.sharing.specs.Secrecy.{OppositeUndoes};
 ghost use Rattle.sharing.specs.Threshold.{scheme_of};
 ghost use Rattle.trays.specs.Refusals.{number_of};
@@ -40,7 +40,7 @@ pub fn deal<E: Element>(
     tray: &mut [E],
 ) -> Result<Record, Refusal>
     ensures deals { Deals E.Element.group E.Element.meaning plan issue key.now random.now tray.old tray.new result }
-    ensures hides { Hides E.Element.group E.Element.meaning }
+    ensures hides { HidesAsAsked E.Element.group E.Element.meaning }
     ensures undoes { OppositeUndoes E.Element.group }
     ensures restores { Restores E.Element.group E.Element.meaning }
 {

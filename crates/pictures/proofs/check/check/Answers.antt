@@ -6,18 +6,18 @@ use Rattle.pictures.proofs.Digits.{bytes_under}
 use Rattle.pictures.proofs.Opening.{Opens, accepted, body_long, few_slips, opens, whole_verdict}
 use Rattle.pictures.proofs.check.check.Goals as goal
 
-pub check-body-requires : goal.check-body-requires
-check-body-requires g c =
-    let o : Opens g.C.Card.kind g.C.Card.bits c.args.picture.now c.in-ok-opened.opened.head c.in-ok-opened.opened.slips = opens (omega arith) (omega arith) c.in-ok-opened.ensures in
+pub check_body-requires : goal.check_body-requires
+check_body-requires g c =
+    let o : Opens g.C.Card.kind g.C.Card.bits c.args.picture.now c.in_ok-opened.opened.head c.in_ok-opened.opened.slips = opens (omega arith) (omega arith) c.in_ok-opened.ensures in
     (few_slips o, omega (arith, body_long o))
 
-pub returns-in-err-check-body : goal.returns-in-err-check-body
-returns-in-err-check-body g c =
-    let p = err_from_is_err_and c.from-residual-in-err-check-body.result c.from-residual-in-err-check-body.ensures.1 in
-    let o : Opens g.C.Card.kind g.C.Card.bits c.args.picture.now c.in-ok-opened.opened.head c.in-ok-opened.opened.slips = opens (omega arith) (omega arith) c.in-ok-opened.ensures in
-    rw (p.1, p.2) (whole_verdict o (Coded g.C.Card.coded) c.in-err-check-body.ensures)
+pub returns-in_err-check_body : goal.returns-in_err-check_body
+returns-in_err-check_body g c =
+    let p = err_from_is_err_and c.from_residual-in_err-check_body.result c.from_residual-in_err-check_body.ensures.1 in
+    let o : Opens g.C.Card.kind g.C.Card.bits c.args.picture.now c.in_ok-opened.opened.head c.in_ok-opened.opened.slips = opens (omega arith) (omega arith) c.in_ok-opened.ensures in
+    rw (p.1, p.2) (whole_verdict o (Coded g.C.Card.coded) c.in_err-check_body.ensures)
 
 pub returns : goal.returns
 returns g c =
-    let o : Opens g.C.Card.kind g.C.Card.bits c.args.picture.now c.in-ok-opened.opened.head c.in-ok-opened.opened.slips = opens (omega arith) (omega arith) c.in-ok-opened.ensures in
-    accepted o g.met.C.Card.wide.0 (bytes_under c.args.picture.now c.type-inv.picture) c.in-ok-check-body.ensures
+    let o : Opens g.C.Card.kind g.C.Card.bits c.args.picture.now c.in_ok-opened.opened.head c.in_ok-opened.opened.slips = opens (omega arith) (omega arith) c.in_ok-opened.ensures in
+    accepted o g.met.C.Card.wide.0 (bytes_under c.args.picture.now c.type_inv.picture) c.in_ok-check_body.ensures

@@ -9,6 +9,6 @@ returns-in-2 c = judged_mask c.args.picture.now c.check.result c.answer.result c
 pub returns-in-3 : goal.returns-in-3
 returns-in-3 c = judged_dial c.args.picture.now c.check-in-3.result c.answer-in-3.result c.answer-in-3.ensures (omega arith) (search rules)
 
-pub returns-in-default : goal.returns-in-default
-returns-in-default c =
-    judged_rest c.args.picture.now c.check-in-default.result c.answer-in-default.result c.answer-in-default.ensures (λ e. omega arith) (λ e. omega arith) (search rules)
+pub returns-in_default : goal.returns-in_default
+returns-in_default c =
+    judged_rest c.args.picture.now c.check-in_default.result c.answer-in_default.result c.answer-in_default.ensures (λ e. omega arith) (λ e. omega arith) (search rules)

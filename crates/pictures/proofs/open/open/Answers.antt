@@ -3,5 +3,5 @@ use Rattle.std.proofs.Common.{rules}
 use Rattle.plans.proofs.Bounds.{card_bound}
 use Rattle.pictures.proofs.open.open.Goals as goal
 
-pub body-length-requires : goal.body-length-requires
-body-length-requires c = search (rules, card_bound)
+pub body_length-requires : goal.body_length-requires
+body_length-requires c = search (rules, card_bound)

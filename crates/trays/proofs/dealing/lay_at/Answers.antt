@@ -7,8 +7,8 @@ use Rattle.trays.proofs.dealing.lay_at.Goals as goal
 pub returns : goal.returns
 returns g c =
     let k = c.args.size in
-    let kept : length c.lay-slips.new.to ≡ k = search rules in
+    let kept : length c.lay_slips.new.to ≡ k = search rules in
     record {
-      laid = front_written g.E.Element.meaning c.args.place k (c.args.place + k - c.args.place) c.args.tray.now c.lay-slips.new.to _ c.requires.room c.lay-slips.ensures kept;
+      laid = front_written g.E.Element.meaning c.args.place k (c.args.place + k - c.args.place) c.args.tray.now c.lay_slips.new.to _ c.requires.room c.lay_slips.ensures kept;
       long = search (rules, overwrites);
     }

@@ -7,7 +7,7 @@ use Rattle.trays.specs.Laying.{key_of}
 use Rattle.trays.proofs.Parts.{part_long, sized}
 use Rattle.trays.proofs.Seats.{own_room, seated, some_number, unseated}
 use Rattle.trays.proofs.dealing.lay_card.Goals as goal
-use Rattle.trays.proofs.dealing.lay_card.Goals.{in-Ok, in-default}
+use Rattle.trays.proofs.dealing.lay_card.Goals.{in-Ok, in_default}
 
 pub loop-number-init : goal.loop-number-init
 loop-number-init g c = (
@@ -23,8 +23,8 @@ part-own-requires g c =
     c.requires.harbour.0 c.requires.harbour.1 c.in-Ok.ensures in
     own_room p _ c.components-size.result c.threshold-blocks.result (length c.args.random.now) (omega (arith, seat.low)) (search rules) (search rules) c.requires.lengths.1
 
-pub lay-at-requires : goal.lay-at-requires
-lay-at-requires g c =
+pub lay_at-requires : goal.lay_at-requires
+lay_at-requires g c =
     let p = c.args.table.now.plan in
     let k = c.components-size.result in
     let u = c.threshold-blocks.result - 1 in
@@ -52,13 +52,13 @@ loop-number-preserved g c =
           rw w.tray-is (
             card_grows p g.E.Element.group g.E.Element.meaning c.args.key.now c.args.random.now c.requires.lengths.0 c.requires.lengths.1
                 c.masks-masks.result.now c.loop-number.number c.args.harbour w.in-Ok.place c.components-size.result c.threshold-blocks.result w.in-Ok.sign
-                c.loop-number.tray w.lay-at.new.tray w.part-own.result.now c.masks-masks.ensures.value c.requires.harbour.0 (search rules) (search rules) seat
-                (search rules) so_far.0 w.lay-at.ensures.laid,
-            w.lay-at.ensures.long ∙ so_far.1,
+                c.loop-number.tray w.lay_at.new.tray w.part-own.result.now c.masks-masks.ensures.value c.requires.harbour.0 (search rules) (search rules) seat
+                (search rules) so_far.0 w.lay_at.ensures.laid,
+            w.lay_at.ensures.long ∙ so_far.1,
           )
-      | in-default w ↦
-          let out = unseated p c.masks-masks.result.now c.loop-number.number c.args.harbour (number_of w.in-default.field-0) c.masks-masks.ensures.value (search rules)
-          c.requires.harbour.0 (some_number w.in-default.field-0) w.in-default.ensures in
+      | in_default w ↦
+          let out = unseated p c.masks-masks.result.now c.loop-number.number c.args.harbour (number_of w.in_default.field-0) c.masks-masks.ensures.value (search rules)
+          c.requires.harbour.0 (some_number w.in_default.field-0) w.in_default.ensures in
           rw w.tray-is (
             laid_still (scheme_of p) g.E.Element.group (key_of g.E.Element.group g.E.Element.meaning c.args.table.now.plan.components c.args.key.now) (map g.E.Element.meaning c.args.random.now)
                 (c.args.harbour - 1) c.loop-number.number (map g.E.Element.meaning c.loop-number.tray) out so_far.0,

@@ -5,20 +5,20 @@ use Rattle.trays.proofs.Places.{reads_it}
 use Rattle.trays.proofs.Seats.{seated_at, some_number, unseated_at}
 use Rattle.trays.proofs.Sums.{sum_step, sum_still, sum_whole}
 use Rattle.trays.proofs.restoring.restore_one.Goals as goal
-use Rattle.trays.proofs.restoring.restore_one.Goals.{in-Ok, in-default}
+use Rattle.trays.proofs.restoring.restore_one.Goals.{in-Ok, in_default}
 
 pub bounds-masks-number : goal.bounds-masks-number
 bounds-masks-number g c = omega (arith, c.requires.group, ap length c.masks.ensures.value, many c.args.table.now.plan)
 
-pub overflow-add-place : goal.overflow-add-place
-overflow-add-place g c =
+pub overflow_add-place : goal.overflow_add-place
+overflow_add-place g c =
     let seat = seated_at c.args.table.now.plan c.masks.result.now c.args.number c.loop-asked.asked c.in-Ok.place c.in-Ok.sign c.masks.ensures.value
     (omega (arith, c.requires.group, ap length c.masks.ensures.value, many c.args.table.now.plan)) (search rules) c.in-Ok.ensures in
     let below : c.in-Ok.place + c.args.component < length c.args.tray.now = omega (arith, seat.room, c.requires.component, c.requires.length) in
     search (rules, below)
 
-pub offset-bounds-tray-place : goal.offset-bounds-tray-place
-offset-bounds-tray-place g c =
+pub offset_bounds-tray-place : goal.offset_bounds-tray-place
+offset_bounds-tray-place g c =
     let seat = seated_at c.args.table.now.plan c.masks.result.now c.args.number c.loop-asked.asked c.in-Ok.place c.in-Ok.sign c.masks.ensures.value
     (omega (arith, c.requires.group, ap length c.masks.ensures.value, many c.args.table.now.plan)) (search rules) c.in-Ok.ensures in
     let below : c.in-Ok.place + c.args.component < length c.args.tray.now = omega (arith, seat.room, c.requires.component, c.requires.length) in
@@ -45,11 +45,11 @@ loop-asked-preserved g c =
           let read = reads_it m c.args.tray.now (w.in-Ok.place + c.args.component) w.index-tray-place.result G.nil w.index-tray-place.is below in
           rw w.sum-is (
           sum_step G p values c.args.number c.args.component c.loop-asked.asked w.in-Ok.place w.in-Ok.sign (m w.index-tray-place.result)
-          (m c.loop-asked.sum) (m w.with-slip-sum.result) seat read c.loop-asked.invariant (search rules)
+          (m c.loop-asked.sum) (m w.with_slip-sum.result) seat read c.loop-asked.invariant (search rules)
           )
-      | in-default w ↦
-          let out = unseated_at p c.masks.result.now c.args.number c.loop-asked.asked (number_of w.in-default.field-0) c.masks.ensures.value low
-          (some_number w.in-default.field-0) w.in-default.ensures in
+      | in_default w ↦
+          let out = unseated_at p c.masks.result.now c.args.number c.loop-asked.asked (number_of w.in_default.field-0) c.masks.ensures.value low
+          (some_number w.in_default.field-0) w.in_default.ensures in
           rw w.sum-is (c.loop-asked.invariant ∙ sum_still G p values c.args.number c.args.component c.loop-asked.asked out)
     ]
 

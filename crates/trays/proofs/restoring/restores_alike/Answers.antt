@@ -13,7 +13,7 @@ returns-then-not-same g c =
     let h = (restored g.E.Element.group (scheme_of c.args.table.now.plan) (map g.E.Element.meaning c.args.tray.now) 0) in
     let apart = c.if-not-same.ensures in (
       λ none. absurd none,
-      λ alike. apart.1 (c.restore-one-other.ensures ∙ one_component f h c.args.table.now.plan.components c.loop-component.component (search rules) alike ∙ sym c.restore-one-first.ensures),
+      λ alike. apart.1 (c.restore_one-other.ensures ∙ one_component f h c.args.table.now.plan.components c.loop-component.component (search rules) alike ∙ sym c.restore_one-first.ensures),
     )
 
 pub loop-component-preserved : goal.loop-component-preserved
@@ -21,7 +21,7 @@ loop-component-preserved g c =
     let f = (restored g.E.Element.group (scheme_of c.args.table.now.plan) (map g.E.Element.meaning c.args.tray.now) c.args.number) in
     let h = (restored g.E.Element.group (scheme_of c.args.table.now.plan) (map g.E.Element.meaning c.args.tray.now) 0) in
     let same = c.if-not-same.ensures in
-    one_more (λ j. f j ≡ h j) c.loop-component.component c.loop-component.invariant (sym c.restore-one-other.ensures ∙ same.0 tt ∙ c.restore-one-first.ensures)
+    one_more (λ j. f j ≡ h j) c.loop-component.component c.loop-component.invariant (sym c.restore_one-other.ensures ∙ same.0 tt ∙ c.restore_one-first.ensures)
 
 pub returns : goal.returns
 returns g c =

@@ -18,7 +18,7 @@ returns-then-self-body c =
 pub returns-else-width-gt8 : goal.returns-else-width-gt8
 returns-else-width-gt8 c =
     let moved = shl_whole c.args.self.now.held c.args.self.now.bits 8 64 c.requires.1 (omega arith) in
-    let byte = c.type-inv.body c.args.self.now.at in
+    let byte = c.type_inv.body c.args.self.now.at in
     record {
       kept = (left_byte c.args.body.now c.args.self.now.held c.args.self.now.at _ _ (omega arith) (omega arith) (omega arith), omega arith);
       held = (omega (arith, held_fits c.args.self.now.held c.args.self.now.bits 8 c.from-else-width-gt8.result c.requires.1 (omega arith)), omega arith);

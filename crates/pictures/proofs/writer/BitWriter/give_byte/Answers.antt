@@ -3,8 +3,8 @@ use Rattle.std.proofs.Common.{arith, rules}
 use Rattle.pictures.proofs.Pushing.{byte_put, gives, out_fits, place_fits}
 use Rattle.pictures.proofs.writer.BitWriter.give_byte.Goals as goal
 
-pub overflow-cast-body : goal.overflow-cast-body
-overflow-cast-body c = omega (arith, out_fits 1 (omega arith) c.args.self.now c.args.body.now c.requires)
+pub overflow_cast-body : goal.overflow_cast-body
+overflow_cast-body c = omega (arith, out_fits 1 (omega arith) c.args.self.now c.args.body.now c.requires)
 
 pub returns : goal.returns
 returns c =

@@ -15,8 +15,8 @@ use Rattle.trays.proofs.record.Record.audit.Goals as goal
 pub loop-number-init : goal.loop-number-init
 loop-number-init g c = λ h below. let first : h ≡ 0 = omega arith in ap (restores g.E.Element.group (scheme_of c.args.self.now.plan) (map g.E.Element.meaning c.args.tray.now)) first
 
-pub restores-alike-requires : goal.restores-alike-requires
-restores-alike-requires g c =
+pub restores_alike-requires : goal.restores_alike-requires
+restores_alike-requires g c =
     let same = same_scheme c.table-table.result.plan c.args.self.now.plan c.table-table.ensures.plan in
     let long : length c.args.tray.now ≡ tray_length (scheme_of c.args.self.now.plan) = search (rules, tray_long) in
     record {
@@ -24,14 +24,14 @@ restores-alike-requires g c =
       length = long ∙ ap tray_length (sym same);
     }
 
-pub returns-then-not-restores-alike : goal.returns-then-not-restores-alike
-returns-then-not-restores-alike g c = λ sheet code number width.
+pub returns-then-not-restores_alike : goal.returns-then-not-restores_alike
+returns-then-not-restores_alike g c = λ sheet code number width.
     let p = c.args.self.now.plan in
     let s = holding (told_by c.args.self.now) c.args.tray.now sheet in
     let same = same_scheme c.table-table.result.plan p c.table-table.ensures.plan in
     let long : length c.args.tray.now ≡ tray_length (scheme_of p) = search (rules, tray_long) in
     let low : c.loop-number.number < group_count (shape_of p) = search rules in
-    let apart = c.if-not-restores-alike.ensures.1 in
+    let apart = c.if-not-restores_alike.ensures.1 in
     takes_turn (kind_of g.E.Element.group g.E.Element.meaning code number width) s s (audit (length c.args.tray.now)) [] _
     (auditable width (length c.args.tray.now) (told_by c.args.self.now) long) refl (
       inr (
@@ -49,7 +49,7 @@ pub loop-number-preserved : goal.loop-number-preserved
 loop-number-preserved g c =
     let p = c.args.self.now.plan in
     let same = same_scheme c.table-table.result.plan p c.table-table.ensures.plan in
-    let alike = c.if-not-restores-alike.ensures.0 tt in
+    let alike = c.if-not-restores_alike.ensures.0 tt in
     one_more (λ h. restores g.E.Element.group (scheme_of p) (map g.E.Element.meaning c.args.tray.now) h ≡ restores g.E.Element.group (scheme_of p) (map g.E.Element.meaning c.args.tray.now) 0)
     c.loop-number.number c.loop-number.invariant
     (subst (λ x. restores g.E.Element.group x (map g.E.Element.meaning c.args.tray.now) c.loop-number.number ≡ restores g.E.Element.group x (map g.E.Element.meaning c.args.tray.now) 0) same alike)
@@ -59,7 +59,7 @@ returns g c = λ sheet code number width.
     let p = c.args.self.now.plan in
     let s = holding (told_by c.args.self.now) c.args.tray.now sheet in
     let long : length c.args.tray.now ≡ tray_length (scheme_of p) = search (rules, tray_long) in
-    let all : group_count (shape_of p) ≡ c.group-count-number-end.result = search rules in
+    let all : group_count (shape_of p) ≡ c.group_count-number-end.result = search rules in
     takes_turn (kind_of g.E.Element.group g.E.Element.meaning code number width) s s (audit (length c.args.tray.now)) [] agrees
     (auditable width (length c.args.tray.now) (told_by c.args.self.now) long) refl
     (inl (refl, λ h below. c.loop-number.invariant h (omega (arith, all, many p, c.loop-number-test.false))), refl, refl)

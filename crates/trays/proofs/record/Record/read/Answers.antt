@@ -11,15 +11,15 @@ use Rattle.trays.proofs.record.Record.read.Goals as goal
 pub part-requires : goal.part-requires
 part-requires g c =
     let p = c.args.self.now.plan in
-    let told = readable p 0 c.args.harbour (length c.args.tray.now) (told_by c.args.self.now) refl c.in-ok-judge-read.ensures in
-    card_fits p _ c.card-length.result (length c.args.tray.now) c.card-length.ensures told.0 (omega (arith, told.1, told.2))
+    let told = readable p 0 c.args.harbour (length c.args.tray.now) (told_by c.args.self.now) refl c.in_ok-judge_read.ensures in
+    card_fits p _ c.card_length.result (length c.args.tray.now) c.card_length.ensures told.0 (omega (arith, told.1, told.2))
 
 pub returns : goal.returns
 returns g c =
     let p = c.args.self.now.plan in
-    let judged = c.in-ok-judge-read.ensures in
+    let judged = c.in_ok-judge_read.ensures in
     let told = readable p 0 c.args.harbour (length c.args.tray.now) (told_by c.args.self.now) refl judged in
-    let own = card_part p c.args.harbour c.card-length.result c.args.tray.now c.card-length.ensures told.1 told.2 in
+    let own = card_part p c.args.harbour c.card_length.result c.args.tray.now c.card_length.ensures told.1 told.2 in
     let part : c.part.result.now ≡ card_in (scheme_of p) (c.args.harbour - 1) c.args.tray.now = search (rules, own) in
     record {
       turns = λ sheet code number width.
