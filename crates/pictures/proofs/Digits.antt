@@ -1,12 +1,12 @@
 -- The digits of a number in a base: how many, how large, what number they make, and that no others make it. Assumes nothing.
-use Rattle.std.proofs.Common.{◌≡◌, ℕ, zero, suc, ◌+◌, ◌*◌, ◌/◌, ◌%◌, ◌^◌, ◌<◌, ◌≤◌, List, [], ◌∷◌, ◌++◌, length, get_or, sym, refl, ap, ◌∙◌, ap₂, mod-lt, mul_assoc, mul_comm, add-mul, suc-add, mul-zero, zero-add, zero-mul, mul-one, arith, pow-add, w8, Fits}
+use Rattle.std.proofs.Common.{◌≡◌, ℕ, zero, suc, ◌+◌, ◌*◌, ◌/◌, ◌%◌, ◌^◌, ◌<◌, ◌≤◌, List, [], ◌∷◌, ◌++◌, length, get_or, take, drop, sym, refl, ap, ◌∙◌, subst, ap₂, mod-lt, mul_assoc, mul_comm, add-mul, suc-add, mul-zero, zero-add, zero-mul, mul-one, arith, pow-add, w8, Fits}
 use native.Mathlib.Nat.{div-div-eq-div-mul, mod-one, one-le-pow, pow-succ', pow-zero}
 use lib.Arith.{mod-mul}
 use Rattle.std.specs.Int.Digits.{AllBelowBase, number_from_digits, number_from_digits_after}
 use Rattle.std.proofs.lemmas.Nat.{div-mul-add, mod-mul-add}
 use Rattle.std.proofs.lemmas.Int.Digits.{number_lt, number_push, number_after_append}
-use Rattle.std.proofs.lemmas.List.Elements.{All-from_get_or}
-use Rattle.sharing.specs.Format.{digits, packed}
+use Rattle.std.proofs.lemmas.List.Elements.{All-append, All-drop, All-from_get_or, All-from_recursion, All-take, recursion_from_All}
+use Rattle.sharing.specs.Format.{bytes_of, digits, packed}
 
 pub packed_is : (width x : ℕ) (cs : List ℕ) → packed width x cs ≡ number_from_digits_after (2 ^ width) x cs
 packed_is width x [] = refl
@@ -19,7 +19,18 @@ packed_push width cs c =
 
 -- each byte of a slice is below 256
 pub bytes_under : (bytes : List ℕ) → ((i : ℕ) → Fits w8 (get_or bytes i 0)) → AllBelowBase 256 bytes
-bytes_under bytes typed = All-from_get_or (λ d. d < 256) bytes 0 (λ i _. (typed i).fits)
+bytes_under bytes typed = recursion_from_All (λ d. d < 256) bytes (All-from_get_or (λ d. d < 256) bytes 0 (λ i _. (typed i).fits))
+
+-- what holds of digits holds of some of them, and of two lists of them end to end
+pub below_take : (b n : ℕ) (ds : List ℕ) → AllBelowBase b ds → AllBelowBase b (take n ds)
+below_take b n ds under = recursion_from_All (λ d. d < b) (take n ds) (All-take (λ d. d < b) n ds (All-from_recursion (λ d. d < b) ds under))
+
+pub below_drop : (b n : ℕ) (ds : List ℕ) → AllBelowBase b ds → AllBelowBase b (drop n ds)
+below_drop b n ds under = recursion_from_All (λ d. d < b) (drop n ds) (All-drop (λ d. d < b) n ds (All-from_recursion (λ d. d < b) ds under))
+
+pub below_append : (b : ℕ) (ds es : List ℕ) → AllBelowBase b ds → AllBelowBase b es → AllBelowBase b (ds ++ es)
+below_append b ds es u v =
+    recursion_from_All (λ d. d < b) (ds ++ es) (All-append (λ d. d < b) ds es (All-from_recursion (λ d. d < b) ds u) (All-from_recursion (λ d. d < b) es v))
 
 pub digits_length : (b n x : ℕ) → length (digits b n x) ≡ n
 digits_length b zero x = refl
@@ -77,6 +88,27 @@ digits_append b (suc n) k x =
     let top : x / b ^ (n + k) ≡ x / b ^ k / b ^ n =
     ap (λ p. x / p) (pow-add b n k ∙ mul_comm (b ^ n) (b ^ k)) ∙ sym (div-div-eq-div-mul x (b ^ k) (b ^ n)) in
     ap (λ m. digits b m x) (suc-add n k) ∙ ap₂ (λ y ys. y % b ∷ ys) top (digits_append b n k x)
+
+-- the bytes of a picture are digits in base 256
+bytes_digits : (n x : ℕ) → bytes_of n x ≡ digits 256 n x
+bytes_digits zero x = refl
+bytes_digits (suc n) x = ap (λ ys. x / 256 ^ n % 256 ∷ ys) (bytes_digits n x)
+
+pub bytes_length : (n x : ℕ) → length (bytes_of n x) ≡ n
+bytes_length n x = ap length (bytes_digits n x) ∙ digits_length 256 n x
+
+pub bytes_below : (n x : ℕ) → AllBelowBase 256 (bytes_of n x)
+bytes_below n x = subst (AllBelowBase 256) (sym (bytes_digits n x)) (digits_under 256 n x (omega arith))
+
+pub number_bytes : (n x : ℕ) → number_from_digits 256 (bytes_of n x) ≡ x % 256 ^ n
+number_bytes n x = ap (number_from_digits 256) (bytes_digits n x) ∙ number_digits 256 n x (omega arith)
+
+pub bytes_number : (n : ℕ) (ds : List ℕ) → AllBelowBase 256 ds → length ds ≡ n → bytes_of n (number_from_digits 256 ds) ≡ ds
+bytes_number n ds under long = bytes_digits n (number_from_digits 256 ds) ∙ digits_number 256 n ds under long
+
+pub bytes_append : (n k x : ℕ) → bytes_of (n + k) x ≡ bytes_of n (x / 256 ^ k) ++ bytes_of k x
+bytes_append n k x =
+    bytes_digits (n + k) x ∙ digits_append 256 n k x ∙ ap₂ ◌++◌ (sym (bytes_digits n (x / 256 ^ k))) (sym (bytes_digits k x))
 
 -- a power of a power
 pub pow_mul : (b m n : ℕ) → (b ^ m) ^ n ≡ b ^ (m * n)

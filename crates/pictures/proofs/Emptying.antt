@@ -4,12 +4,11 @@ use native.Mathlib.Nat.{mod-one}
 use Rattle.std.specs.Int.Digits.{AllBelowBase, number_from_digits}
 use Rattle.std.proofs.lemmas.Nat.{mod_below, mod-pow-add, pow-add, shl_below, shl_whole}
 use Rattle.std.proofs.lemmas.Int.Digits.{number_push}
-use Rattle.std.proofs.lemmas.List.Elements.{All-push}
 use Rattle.std.proofs.lemmas.List.{length-set, take_all, take_more_set}
 use Rattle.sharing.specs.Format.{bytes_of}
 use Rattle.pictures.specs.Packing.{HasRoom, bits_made, made}
 use Rattle.pictures.specs.declared.writer.BitWriter.{BitWriter}
-use Rattle.pictures.proofs.Digits.{digits_number}
+use Rattle.pictures.proofs.Digits.{below_append, bytes_number}
 
 -- what is written and what is held make the same number in every turn
 pub record Left (held total : ℕ) (body : List ℕ) (bits at : ℕ) : Type 0 where
@@ -30,7 +29,7 @@ left_less held total body bits at l some =
     let more : bits ≡ 8 + (bits - 8) = omega (arith, l.ends) in
     record {
       few = omega (arith, l.few);
-      bytes = subst (AllBelowBase 256) (sym front) (All-push (λ d. d < 256) (take at body) byte l.bytes byte_low);
+      bytes = subst (AllBelowBase 256) (sym front) (below_append 256 (take at body) (byte ∷ []) l.bytes (byte_low, tt));
       ends = omega (arith, l.ends);
       whole =
           ap (λ x. x * 2 ^ (bits - 8) + held % 2 ^ (bits - 8)) (ap (number_from_digits 256) front ∙ number_push 256 (take at body) byte)
@@ -43,7 +42,7 @@ left_none held total body bits at l none =
     let all : take at body ≡ body = take_all at body (omega (arith, l.ends)) in
     let same : number_from_digits 256 body ≡ total =
     omega (arith, l.whole, ap (λ xs. number_from_digits 256 xs) all, ap (λ k. number_from_digits 256 (take at body) * 2 ^ k) none, ap (λ k. held % 2 ^ k) none, mod-one held, mul-one (number_from_digits 256 (take at body))) in
-    sym (digits_number 256 (length body) body (subst (AllBelowBase 256) all l.bytes) refl) ∙ ap (bytes_of (length body)) same
+    sym (bytes_number (length body) body (subst (AllBelowBase 256) all l.bytes) refl) ∙ ap (bytes_of (length body)) same
 
 module _ (w : BitWriter) (body : List ℕ) (room : HasRoom w body) (long : length body ≡ (bits_made w + 7) / 8) where
   -- the 0 bits to the end of the last byte

@@ -3,13 +3,12 @@ use Rattle.std.proofs.Common.{◌≡◌, ℕ, ◌+◌, ◌*◌, ◌/◌, ◌^◌
 use Rattle.std.specs.Int.Digits.{AllBelowBase, number_from_digits}
 use Rattle.std.proofs.lemmas.Nat.{pow_pos, shr_below, shr_split}
 use Rattle.std.proofs.lemmas.Int.Digits.{number_lt}
-use Rattle.std.proofs.lemmas.List.Elements.{All-drop, All-take}
 use Rattle.std.proofs.lemmas.List.{length-drop, length-take-le, take-append-drop}
 use Rattle.std.proofs.lemmas.Bool.Decides.{nat_tests}
 use Rattle.sharing.specs.Format.{body_bytes, body_length, bytes_of, filling, head_bytes, packed, picture}
 use Rattle.pictures.specs.Reading.{codes_in, codes_of, format_in, head_in, head_refusal, rest_in, rest_of, slips_of, unfit_head}
 use Rattle.pictures.proofs.Bodies.{bits_fill, length_codes}
-use Rattle.pictures.proofs.Digits.{digits_number, number_digits, packed_is, pow_mul}
+use Rattle.pictures.proofs.Digits.{below_drop, below_take, bytes_number, number_digits, packed_is, pow_mul}
 
 -- what a head that is not refused is
 pub record Sound (kind width : ℕ) (bytes : List ℕ) : Type 0 where
@@ -36,7 +35,7 @@ module _ (width n : ℕ) (body : List ℕ) (under : AllBelowBase 256 body) (long
   body_exact rest =
       let whole : packed width 0 (codes_of width n body) * 2 ^ filling width n ≡ number_from_digits 256 body =
       ap (λ q. q * 2 ^ filling width n) codes_make ∙ omega (arith, shr_split (number_from_digits 256 body) (filling width n), rest) in
-      sym (digits_number 256 (body_length width n) body under long)
+      sym (bytes_number (body_length width n) body under long)
       ∙ ap (bytes_of (body_length width n)) (sym whole)
       ∙ ap (λ k. bytes_of (body_length width k) (packed width 0 (codes_of width n body) * 2 ^ filling width k)) (sym (length_codes width n body))
 
@@ -55,11 +54,11 @@ head_number [] long format = absurd (omega arith)
 
 head_exact : (bytes : List ℕ) → AllBelowBase 256 bytes → 9 ≤ length bytes → format_in bytes ≡ 1 → take 9 bytes ≡ head_bytes (head_in bytes)
 head_exact bytes under long format =
-    sym (digits_number 256 9 (take 9 bytes) (All-take (λ d. d < 256) 9 bytes under) (length-take-le 9 bytes long)) ∙ ap (bytes_of 9) (head_number bytes long format)
+    sym (bytes_number 9 (take 9 bytes) (below_take 256 9 bytes under) (length-take-le 9 bytes long)) ∙ ap (bytes_of 9) (head_number bytes long format)
 
 pub exact : (kind width : ℕ) (bytes : List ℕ) → 1 ≤ width → AllBelowBase 256 bytes → head_refusal kind width bytes ≡ 0 → rest_in width bytes ≡ 0 → bytes ≡ picture width (head_in bytes) (codes_in width bytes)
 exact kind width bytes wide under none rest =
     let s = sound kind width bytes none in
     let long : length (drop 9 bytes) ≡ body_length width (slips_of (head_in bytes)) = omega (arith, length-drop 9 bytes, s.exactly) in
     sym (take-append-drop 9 bytes)
-    ∙ ap₂ ◌++◌ (head_exact bytes under s.long s.format) (body_exact width (slips_of (head_in bytes)) (drop 9 bytes) (All-drop (λ d. d < 256) 9 bytes under) long rest)
+    ∙ ap₂ ◌++◌ (head_exact bytes under s.long s.format) (body_exact width (slips_of (head_in bytes)) (drop 9 bytes) (below_drop 256 9 bytes under) long rest)

@@ -11,7 +11,7 @@ use Rattle.pictures.proofs.Exact.{exact, sound}
 
 -- A body without fault: every code is an element's, and the bits behind them are 0.
 module _ {Code : ℕ → Type 0} {codes : List ℕ} {rest slip : ℕ} where
-  faultless : ReadThrough Code codes rest 0 slip → All Code codes × (rest ≡ 0)
+  pub faultless : ReadThrough Code codes rest 0 slip → All Code codes × (rest ≡ 0)
   faultless read = elim read [ inl f ↦ absurd (omega (arith, f.1)) | inr a ↦ (a.0, grind (arith, nat_tests)) ]
 
 -- The body, as the program cuts it off.

@@ -3,12 +3,11 @@ use Rattle.std.proofs.Common.{◌≡◌, ℕ, suc, ◌+◌, ◌-◌, ◌*◌, �
 use Rattle.std.specs.Int.Digits.{AllBelowBase, number_from_digits}
 use Rattle.std.proofs.lemmas.Nat.{mod_below, pow-add, pow_below, pow_pos, shl_whole, shr_below, shr_split}
 use Rattle.std.proofs.lemmas.List.Edits.{sets-eq}
-use Rattle.std.proofs.lemmas.List.Elements.{All-append}
 use Rattle.std.proofs.lemmas.List.{length-append, length-drop, length-take-le, take_at}
 use Rattle.sharing.specs.Format.{bytes_of}
 use Rattle.pictures.specs.Packing.{CanGive, HasRoom, bits_made, made}
 use Rattle.pictures.specs.declared.writer.BitWriter.{BitWriter}
-use Rattle.pictures.proofs.Digits.{digits_length, digits_under, number_append, number_digits, pow_mul}
+use Rattle.pictures.proofs.Digits.{below_append, bytes_below, bytes_length, number_append, number_bytes, pow_mul}
 use Rattle.pictures.proofs.Held.{held_fits, top_off}
 
 four_put : (body : List ℕ) (at a b c d : ℕ) → at + 4 ≤ length body
@@ -104,7 +103,7 @@ module _ (n : ℕ) (few : n ≤ 4) (w : BitWriter) (body : List ℕ) (can : CanG
     after = record { held = w.held - out * 2 ^ stay % 2 ^ 64; bits = stay; at = w.at + n }
 
     front_long : length (take w.at body ++ bytes_of n out) ≡ w.at + n
-    front_long = omega (arith, length-append (take w.at body) (bytes_of n out), length-take-le w.at body (omega (arith, place_fits)), digits_length 256 n out)
+    front_long = omega (arith, length-append (take w.at body) (bytes_of n out), length-take-le w.at body (omega (arith, place_fits)), bytes_length n out)
 
     parts : body' ≡ (take w.at body ++ bytes_of n out) ++ drop (w.at + n) body
     parts = put ∙ sym (append_assoc (take w.at body) (bytes_of n out) (drop (w.at + n) body))
@@ -116,10 +115,10 @@ module _ (n : ℕ) (few : n ≤ 4) (w : BitWriter) (body : List ℕ) (can : CanG
     front_number =
         let big : 256 ^ n ≡ 2 ^ (8 * n) = pow_mul 2 8 n in
         ap (number_from_digits 256) front ∙ number_append 256 (take w.at body) (bytes_of n out)
-        ∙ ap₂ (λ p x. number_from_digits 256 (take w.at body) * p + x) (ap (λ k. 256 ^ k) (digits_length 256 n out) ∙ big) (number_digits 256 n out (omega arith) ∙ ap (λ p. out % p) big ∙ mod-eq_of_lt out_fits)
+        ∙ ap₂ (λ p x. number_from_digits 256 (take w.at body) * p + x) (ap (λ k. 256 ^ k) (bytes_length n out) ∙ big) (number_bytes n out ∙ ap (λ p. out % p) big ∙ mod-eq_of_lt out_fits)
 
     front_under : AllBelowBase 256 (take (w.at + n) body')
-    front_under = subst (AllBelowBase 256) (sym front) (All-append (λ d. d < 256) (take w.at body) (bytes_of n out) can.written (digits_under 256 n out (omega arith)))
+    front_under = subst (AllBelowBase 256) (sym front) (below_append 256 (take w.at body) (bytes_of n out) can.written (bytes_below n out))
 
     body_long : length body' ≡ length body
     body_long = omega (arith, ap length parts, length-append (take w.at body ++ bytes_of n out) (drop (w.at + n) body), front_long, length-drop (w.at + n) body, place_fits)

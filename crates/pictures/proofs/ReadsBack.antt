@@ -5,13 +5,14 @@ use Rattle.std.specs.Int.Digits.{AllBelowBase, number_from_digits}
 use Rattle.std.proofs.lemmas.Nat.{shl_below, shl-shr}
 use Rattle.std.proofs.lemmas.Int.Digits.{number_lt}
 use Rattle.std.proofs.lemmas.List.{length-append, length-map}
+use Rattle.std.proofs.lemmas.List.Elements.{All-cons, All-nil}
 use Rattle.std.proofs.lemmas.Bool.{eq-eqb}
 use Rattle.std.proofs.lemmas.Bool.Decides.{nat_tests}
 use Rattle.sharing.specs.Format.{Head, body_bytes, body_length, digits, filling, head_bytes, packed, picture}
 use Rattle.pictures.specs.Reading.{Coded, codes_in, codes_of, format_in, head_in, head_refusal, rest_in, rest_of, slips_of, unfit_head}
 use Rattle.pictures.specs.Writing.{Fits, ReadsBack}
 use Rattle.pictures.proofs.Bodies.{bits_fill}
-use Rattle.pictures.proofs.Digits.{digits_append, digits_length, digits_number, number_digits, packed_is, pow_mul}
+use Rattle.pictures.proofs.Digits.{bytes_append, bytes_length, digits_number, number_bytes, packed_is, pow_mul}
 use Rattle.pictures.proofs.Exact.{Sound}
 
 module _ (width : ℕ) (codes : List ℕ) (under : AllBelowBase (2 ^ width) codes) where
@@ -22,7 +23,7 @@ module _ (width : ℕ) (codes : List ℕ) (under : AllBelowBase (2 ^ width) code
       let low : packed width 0 codes < 2 ^ (width * n) = omega (arith, packed_is width 0 codes, number_lt (2 ^ width) codes under, pow_mul 2 width n) in
       let below : packed width 0 codes * 2 ^ filling width n < 256 ^ body_length width n =
       omega (arith, shl_below (packed width 0 codes) (width * n) (filling width n) low, ap (λ k. 2 ^ k) (bits_fill width n), pow_mul 2 8 (body_length width n)) in
-      number_digits 256 (body_length width n) (packed width 0 codes * 2 ^ filling width n) (omega arith) ∙ mod-eq_of_lt below
+      number_bytes (body_length width n) (packed width 0 codes * 2 ^ filling width n) ∙ mod-eq_of_lt below
 
   pub codes_back : (n : ℕ) → length codes ≡ n → codes_of width n (body_bytes width codes) ≡ codes
   codes_back n many =
@@ -82,7 +83,7 @@ module _ (width : ℕ) (h : Head) (codes : List ℕ) (s : Small h) where
   issue_back =
       let all : ℕ = packed 16 (packed 32 (packed 4 1 (h.kind ∷ h.harbours ∷ h.threshold ∷ h.harbour ∷ h.components ∷ [])) (h.issue ∷ [])) (h.round ∷ []) in
       let field : all / 256 ^ 2 % 256 ^ 4 ≡ h.issue = omega arith in
-      ap (λ ds. number_from_digits 256 (take 4 ds)) (digits_append 256 4 2 all) ∙ number_digits 256 4 (all / 256 ^ 2) (omega arith) ∙ field
+      ap (λ ds. number_from_digits 256 (take 4 ds)) (bytes_append 4 2 all) ∙ number_bytes 4 (all / 256 ^ 2) ∙ field
 
   round_back : (head_in (picture width h codes)).round ≡ h.round
   round_back = omega arith
@@ -91,8 +92,8 @@ module _ (width : ℕ) (h : Head) (codes : List ℕ) (s : Small h) where
   head_back = same_head (head_in (picture width h codes)) h kind_back harbours_back threshold_back harbour_back components_back issue_back round_back
 
 coded_all : {C : Type 0} (coded : C → ℕ) (slips : List C) → All (Coded coded) (map coded slips)
-coded_all coded [] = tt
-coded_all coded (e ∷ es) = ((e, refl), coded_all coded es)
+coded_all coded [] = All-nil (Coded coded)
+coded_all coded (e ∷ es) = All-cons (Coded coded) (coded e) (map coded es) (e, refl) (coded_all coded es)
 
 module _ {C : Type 0} (coded : C → ℕ) (width : ℕ) (fits : (e : C) → coded e < 2 ^ width) where
   pub codes_under : (slips : List C) → AllBelowBase (2 ^ width) (map coded slips)
@@ -107,7 +108,7 @@ module _ {C : Type 0} (coded : C → ℕ) (width : ℕ) (fits : (e : C) → code
       let count : length codes ≡ slips_of h = length-map slips coded ∙ many in
       let there : length codes ≡ slips_of (head_in bytes) = count ∙ ap slips_of (sym head) in
       let body : length (body_bytes width codes) ≡ body_length width (slips_of (head_in bytes)) =
-      digits_length 256 (body_length width (length codes)) (packed width 0 codes * 2 ^ filling width (length codes)) ∙ ap (body_length width) there in
+      bytes_length (body_length width (length codes)) (packed width 0 codes * 2 ^ filling width (length codes)) ∙ ap (body_length width) there in
       let accepted : head_refusal kind width bytes ≡ 0 = passes kind width bytes (record {
         long = omega (arith, length-append (head_bytes h) (body_bytes width codes));
         format = format_back width h codes (small h f);

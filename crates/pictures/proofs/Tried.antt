@@ -1,7 +1,7 @@
 -- The codes of a body, tried one after the other. Assumes nothing.
 use Rattle.std.proofs.Common.{◌≡◌, ℕ, ◌+◌, ◌<◌, ◌≤◌, cond, eqb, List, length, take, Ok, Err, All, Result, sym, refl, ap, ◌∙◌, subst, inl, inr, arith, MatchResult}
 use Rattle.std.specs.Int.Digits.{AllBelowBase}
-use Rattle.std.proofs.lemmas.List.Elements.{All-more}
+use Rattle.std.proofs.lemmas.List.Elements.{All-more, All-nil}
 use Rattle.std.proofs.lemmas.List.{take_all}
 use Rattle.std.proofs.lemmas.Bool.{eq-eqb, ne_eqb}
 use Rattle.std.proofs.lemmas.Result.{MatchResult-at_err, MatchResult-at_ok}
@@ -25,7 +25,7 @@ pub record Tried (Code : ℕ → Type 0) (width n : ℕ) (body : List ℕ) (i : 
   pub codes : All Code (take i (codes_of width n body))
 
 pub tried_start : {Code : ℕ → Type 0} {width n : ℕ} {body : List ℕ} {r : BitReader} → r ≡ record { held = 0; bits = 0; at = 0 } → AllBelowBase 256 body → length body ≡ body_length width n → Tried Code width n body 0 r
-tried_start new under long = record { partway = partway_start new under long; codes = tt }
+tried_start {Code = Code} new under long = record { partway = partway_start new under long; codes = All-nil Code }
 
 module _ {Code : ℕ → Type 0} {width n : ℕ} {body : List ℕ} {i : ℕ} {r : BitReader} (t : Tried Code width n body i r) where
   module _ (more : i < n) {taken code : ℕ} {next : BitReader} (read : NextRead width body r taken code next) where

@@ -4,11 +4,10 @@ use native.Mathlib.Nat.{pow-le-pow_right}
 use Rattle.std.specs.Int.Digits.{AllBelowBase, number_from_digits as number, number_from_digits_after}
 use Rattle.std.proofs.lemmas.Nat.{div-mul-add, mod_below, mod-mul-add, mod-pow-add, pow_pos, shr_below, shr-shr}
 use Rattle.std.proofs.lemmas.Int.Digits.{number_lt}
-use Rattle.std.proofs.lemmas.List.Elements.{All-drop}
 use Rattle.std.proofs.lemmas.List.{drop_more}
 use Rattle.pictures.specs.Unpacking.{BetweenCodes, bits_left, left}
 use Rattle.pictures.specs.declared.reader.BitReader.{BitReader}
-use Rattle.pictures.proofs.Digits.{number_after_is, pow_mul}
+use Rattle.pictures.proofs.Digits.{below_drop, number_after_is, pow_mul}
 use Rattle.pictures.proofs.Held.{top_off}
 
 -- What is left, by what is held and how many bytes were read.
@@ -47,7 +46,7 @@ code_off r width body under fits =
     let tail : ℕ = number 256 (drop r.at body) in
     let big : 256 ^ k ≡ 2 ^ (8 * k) = pow_mul 2 8 k in
     let short : tail < 2 ^ (8 * k) =
-    subst (λ x. tail < x) (ap (λ n. 256 ^ n) (length-drop r.at body) ∙ big) (number_lt 256 (drop r.at body) (All-drop (λ d. d < 256) r.at body under)) in
+    subst (λ x. tail < x) (ap (λ n. 256 ^ n) (length-drop r.at body) ∙ big) (number_lt 256 (drop r.at body) (below_drop 256 r.at body under)) in
     let is : left r body ≡ r.held * 2 ^ (8 * k) + tail = ap (λ x. r.held * x + tail) big in
     let end : b + 8 * k ≡ bits_left r body - width = omega arith in
     let upper : 8 * k + b ≡ bits_left r body - width = omega arith in

@@ -3,7 +3,7 @@ use Rattle.std.proofs.Common.{refl, inl, inr, arith}
 use Rattle.std.proofs.lemmas.Result.{err_from_is_err_and}
 use Rattle.pictures.specs.Reading.{Coded}
 use Rattle.pictures.proofs.Digits.{bytes_under}
-use Rattle.pictures.proofs.Opening.{Opens, body_long, few_slips, loaded, misplaced, opens, whole_verdict}
+use Rattle.pictures.proofs.Opening.{Opens, body_long, faultless, few_slips, loaded, misplaced, opens, whole_verdict}
 use Rattle.pictures.proofs.load.load.Goals as goal
 
 pub check_body-requires : goal.check_body-requires
@@ -29,6 +29,10 @@ pub load_body-requires : goal.load_body-requires
 load_body-requires g c =
     let o : Opens g.C.Card.kind g.C.Card.bits c.args.picture.now c.in_ok-opened.opened.head c.in_ok-opened.opened.slips = opens (omega arith) (omega arith) c.in_ok-opened.ensures in
     (omega (arith, few_slips o), rw c.if-place-opened.false (body_long o))
+
+-- check_body found every code to be an element's
+pub returns-in_err-load_body : goal.returns-in_err-load_body
+returns-in_err-load_body g c = absurd (c.in_err-load_body.ensures (rw c.if-place-opened.false (faultless c.in_ok-check_body.ensures).0))
 
 pub returns : goal.returns
 returns g c =

@@ -8,7 +8,7 @@ pub returns : goal.returns
 returns g c =
     let code = c.code.ensures in
     record {
-      back = reads_back g.C.Card.coded g.C.Card.bits code.fits g.C.Card.kind;
-      once = one_to_one g.C.Card.coded g.C.Element.meaning g.C.Card.bits code.fits code.means;
+      back = reads_back g.C.Card.coded g.C.Card.bits code.all_fit g.C.Card.kind;
+      once = one_to_one g.C.Card.coded g.C.Element.meaning g.C.Card.bits code.all_fit code.means;
       bits = body_is_bits g.C.Card.bits;
     }

@@ -9,7 +9,7 @@ loop-slip-init g c = search (rules, so_far_none)
 pub push-requires : goal.push-requires
 push-requires g c =
     let wide = g.met.C.Card.wide in
-    let low = c.code.ensures.fits c.slip-item.result in
+    let low = c.code.ensures.all_fit c.slip-item.result in
     let powers = ap (λ k. 2 ^ k) c.width-width.ensures in
     search (rules, so_far_fits)
 
