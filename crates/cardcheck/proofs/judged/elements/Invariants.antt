@@ -3,4 +3,4 @@ use Rattle.std.proofs.Common.{◌≡◌, vec_len}
 use Rattle.cardcheck.proofs.judged.elements.Given as goal
 
 abbrev pub invariant-loop-each : goal.invariant-loop-each
-invariant-loop-each g l = vec_len l.place ≡ l.-each
+invariant-loop-each g l = vec_len l.place ≡ l._each

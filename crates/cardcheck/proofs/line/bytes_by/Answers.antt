@@ -4,12 +4,12 @@ use Rattle.std.proofs.lemmas.List.{take_rest}
 use Rattle.cardcheck.proofs.Spelling.{past_byte, past_space}
 use Rattle.cardcheck.proofs.line.bytes_by.Goals as goal
 
-pub loop-rest-preserved-in-default·-rest-2 : goal.loop-rest-preserved-in-default·-rest-2
-loop-rest-preserved-in-default·-rest-2 c =
+pub loop-rest-preserved-in_default-rest-2 : goal.loop-rest-preserved-in_default-rest-2
+loop-rest-preserved-in_default-rest-2 c =
     let some : 2 ≤ length c.loop-rest.rest.now = omega (arith, ltb-false) in
     rw take_rest
     (past_byte c.args.text.now (vec_items c.loop-rest.bytes) (vec_items c.push.new.self) c.loop-rest.rest.now c.in-Some-Some.high c.in-Some-Some.low
-    c.in-ok-push.ensures.items some (λ e. omega arith) (sym c.digit.ensures ∙ c.in-Some-Some.is-0) (sym c.digit-in-len2-up.ensures ∙ c.in-Some-Some.is-1) c.loop-rest.invariant)
+    c.in_ok-push-in-len2-up.ensures.items some (λ e. omega arith) (sym c.digit.ensures ∙ c.in-Some-Some.is-0) (sym c.digit-in-len2-up.ensures ∙ c.in-Some-Some.is-1) c.loop-rest.invariant)
 
 pub loop-rest-preserved : goal.loop-rest-preserved
 loop-rest-preserved c =
