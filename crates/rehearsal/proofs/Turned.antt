@@ -1,12 +1,11 @@
 -- What the answer of a call says of its turn: whether it was refused, and what the record tells afterwards. Assumes nothing.
-use Rattle.std.proofs.Common.{◌≡◌, ℕ, ◌+◌, Bool, true, false, cond, not, ◌&&◌, eqb, List, [], map, length, Ok, Err, Result, sym, refl, ap, ◌∙◌, arith, MatchResult}
-use lib.ListN.{length-map}
-use Rattle.std.proofs.lemmas.Bool.{eq-eqb, eqb-false, eqb-true, ne_eqb, true≢false}
+use Rattle.std.proofs.Common.{◌≡◌, ℕ, ◌+◌, Bool, true, false, cond, eqb, List, [], map, length, Ok, Err, Result, sym, refl, ap, ◌∙◌, arith, MatchResult}
+use Rattle.std.proofs.lemmas.Bool.{eq-eqb, eqb-false, eqb-true, ne_eqb}
 use Rattle.kinds.specs.Group.{Group}
 use Rattle.sharing.specs.Calls.{Call, Told, after, apply, audit, current, discard, draw, own, picture, random_count, read, refusal, reissue, tray_length, turned}
 use Rattle.sharing.specs.Dealing.{added, dealing, zeros}
 use Rattle.sharing.specs.Promise.{kind_of}
-use Rattle.sharing.specs.Steps.{Does, Kind, Seen, State, Step, noted, refused, stale, wiped}
+use Rattle.sharing.specs.Steps.{Does, Seen, State, Step, noted, refused, stale, wiped}
 use Rattle.sharing.proofs.Turning.{fits, passes}
 use Rattle.trays.specs.Refusals.{number_of}
 use Rattle.trays.specs.Turns.{ApplyTurns, DiscardTurns, DrawTurns, Turns, holding, seen_discard}

@@ -1,5 +1,5 @@
 -- What a round does to a tray, whose note is spent by an apply or a discard. Assumes nothing.
-use Rattle.std.specs.Prelude.{◌≡◌, ℕ, ◌+◌, Bool, false, cond, List, map, length, ◌==◌}
+use Rattle.std.specs.Prelude.{◌≡◌, ℕ, ◌+◌, false, cond, List, map, length, ◌==◌}
 use Rattle.kinds.specs.Group.{Group}
 use Rattle.plans.specs.Shape.{shape_of}
 use Rattle.plans.specs.declared.plan.Plan.{Plan}

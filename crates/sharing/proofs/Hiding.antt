@@ -4,9 +4,9 @@ use lib.ListN.{length-map, length-replicate}
 use Rattle.std.proofs.lemmas.List.{take-map, drop-map}
 use Rattle.std.proofs.lemmas.Bool.{eq-eqb, false≢true}
 use Rattle.kinds.specs.Group.{Group}
-use Rattle.plans.specs.Layout.{card, tray}
+use Rattle.plans.specs.Layout.{card}
 use Rattle.matrix.specs.Matrix.{slip, row_of}
-use Rattle.sharing.specs.Calls.{Told, Call, draw, apply, discard, read, picture, reissue, audit, tray_length, random_count, no_harbour, needed, current, refusal, turned, after, own, other}
+use Rattle.sharing.specs.Calls.{Told, Call, draw, apply, discard, read, picture, reissue, audit, tray_length, random_count, no_harbour, needed, current, refusal, turned, after, own}
 use Rattle.sharing.specs.Cover.{Readers, cover, HoldNoGroup}
 use Rattle.sharing.specs.Dealing.{Scheme, dealing, card_start, card_in, added, opposed, zeros}
 use Rattle.sharing.specs.Format as format

@@ -4,7 +4,7 @@ use lib.ListN.{length-map}
 use Rattle.std.proofs.lemmas.List.{take-map, drop-map}
 use Rattle.std.proofs.lemmas.Bool.{eqb-true, eqb-false, eq-eqb, or_left, or_right, false≢true}
 use Rattle.kinds.specs.Group.{Group}
-use Rattle.sharing.specs.Calls.{fresh, Told, Call, draw, apply, discard, read, picture, reissue, audit, refusal, after, Turn, own, other, after_turn, taken_by, takes, random_count}
+use Rattle.sharing.specs.Calls.{fresh, Told, Call, draw, apply, discard, read, picture, reissue, audit, refusal, after, Turn, own, other, after_turn, taken_by, random_count}
 use Rattle.sharing.specs.Cover.{Readers, cover, HoldNoGroup}
 use Rattle.sharing.specs.Dealing.{Scheme, dealing, added, opposed}
 use Rattle.sharing.specs.Secrecy.{Sound, Agrees, ask_pictures, asks_picture, hands_out, reads_in, readers, turn_shift, shifts, read_in, SecrecyAsAsked}

@@ -6,7 +6,7 @@ use Rattle.std.proofs.lemmas.List.Elements.{All-cons, All-get_or, All-filter, Al
 use Rattle.std.proofs.lemmas.List.Sums.{length-filter}
 use Rattle.std.proofs.lemmas.Bool.{cases_lt, eqb-true}
 use Rattle.kinds.specs.Group.{Group}
-use Rattle.plans.specs.Groups.{has, members, groups}
+use Rattle.plans.specs.Groups.{has, members}
 use Rattle.plans.specs.Layout.{mask_of}
 use Rattle.plans.specs.Shape.{shape_of, masks_of}
 use Rattle.plans.specs.declared.plan.Plan.{Plan}

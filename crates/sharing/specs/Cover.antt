@@ -1,5 +1,5 @@
 -- The cover: random values that hide a difference of keys from harbours that hold no whole group. Assumes nothing.
-use Rattle.std.specs.Prelude.{ℕ, ◌+◌, ◌<◌, Bool, cond, not, List, map, length, drop, ◌==◌, slice_index_or}
+use Rattle.std.specs.Prelude.{ℕ, ◌+◌, ◌<◌, Bool, cond, List, map, length, drop, ◌==◌, slice_index_or}
 use Rattle.std.specs.List.{prefix_len}
 use Rattle.kinds.specs.Group.{Group}
 use Rattle.plans.specs.Groups.{members}

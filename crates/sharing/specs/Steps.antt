@@ -4,7 +4,7 @@ use Rattle.std.specs.List.{prefix_len}
 use Rattle.kinds.specs.Group.{Group}
 use Rattle.plans.specs.Groups.{has}
 use Rattle.plans.specs.Layout.{mask_of}
-use Rattle.sharing.specs.Calls.{Told, Call, draw, apply, discard, read, picture, reissue, audit, refusal, after, current, Turn, own, other, after_turn, taken_by, deal_refusal, fresh}
+use Rattle.sharing.specs.Calls.{Told, Call, draw, apply, discard, read, picture, reissue, audit, refusal, current, Turn, own, other, after_turn, taken_by, deal_refusal, fresh}
 use Rattle.sharing.specs.Dealing.{Scheme, dealing, card_start, card_in, restores, added, zeros}
 use Rattle.sharing.specs.Format as format
 use Rattle.sharing.specs.Format.{Head}

@@ -1,11 +1,11 @@
 -- The tray is laid label by label: what lies before a group's slips on a card, and how it grows. Assumes nothing.
-use Rattle.std.proofs.Common.{◌≡◌, ℕ, ◌+◌, ◌-◌, ◌≤◌, Bool, true, false, cond, List, [], ◌∷◌, ◌++◌, map, length, take, filter, sym, refl, ap, ◌∙◌, ap₂, arith, length-append}
+use Rattle.std.proofs.Common.{◌≡◌, ℕ, ◌+◌, ◌≤◌, Bool, true, false, cond, List, [], ◌∷◌, ◌++◌, map, length, take, filter, sym, refl, ap, ◌∙◌, ap₂, arith, length-append}
 use Rattle.std.specs.List.{range_with_len, flat_map}
 use Rattle.std.proofs.lemmas.List.FromFn.{length-map-range_with_len}
 use Rattle.std.proofs.lemmas.List.{append_assoc, append-nil, map-append}
 use Rattle.kinds.specs.Group.{Group}
 use Rattle.plans.specs.Groups.{has}
-use Rattle.plans.specs.Layout.{Slot, card, mask_of, place, slots, tray}
+use Rattle.plans.specs.Layout.{Slot, card, mask_of, place, slots}
 use Rattle.plans.proofs.Counting.{counting_append, kept_more}
 use Rattle.plans.proofs.Joining.{joined_append}
 use Rattle.plans.proofs.Places.{length_before}

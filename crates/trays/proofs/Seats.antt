@@ -7,7 +7,7 @@ use Rattle.std.proofs.lemmas.List.FromFn.{get_or-map-range_with_len, length-map-
 use Rattle.std.proofs.lemmas.List.{length_push}
 use Rattle.std.proofs.lemmas.Bool.{cases_Bool, cases_eq, eq-eqb, eqb-true, lt-ltb, true≢false}
 use Rattle.kinds.specs.Group.{Group}
-use Rattle.plans.specs.Groups.{has, member, members, position, sign}
+use Rattle.plans.specs.Groups.{has, members, position, sign}
 use Rattle.plans.specs.Layout.{Slot, mask_of, place, slots}
 use Rattle.plans.specs.Numbering.{number_in}
 use Rattle.plans.specs.Refusals as plan

@@ -1,4 +1,4 @@
-use Rattle.std.proofs.Common.{◌≡◌, ℕ, length, rules}
+use Rattle.std.proofs.Common.{rules}
 use Rattle.std.proofs.lemmas.Result.{err_from_is_err_and}
 use Rattle.trays.specs.Turns.{told_by}
 use Rattle.rehearsal.proofs.Turned.{renewal_back, renewal_undone, renewed, returned_fits}

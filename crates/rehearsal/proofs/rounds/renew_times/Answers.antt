@@ -1,4 +1,4 @@
-use Rattle.std.proofs.Common.{◌≡◌, ◌+◌, ap, arith, rules}
+use Rattle.std.proofs.Common.{◌≡◌, ◌+◌, ap, arith}
 use Rattle.rehearsal.proofs.rounds.renew_times.Goals as goal
 
 pub loop-preserved : goal.loop-preserved

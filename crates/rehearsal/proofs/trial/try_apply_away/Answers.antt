@@ -1,6 +1,5 @@
-use Rattle.std.proofs.Common.{◌≡◌, length, sym, ap, ◌∙◌, rules}
+use Rattle.std.proofs.Common.{◌≡◌, length, ◌∙◌, rules}
 use Rattle.kinds.specs.Kinds.{dial, dials}
-use Rattle.sharing.specs.Calls.{tray_length}
 use Rattle.trays.specs.Turns.{told_by}
 use Rattle.rehearsal.proofs.Turned.{drawn_fits, keeps_applied}
 use Rattle.rehearsal.proofs.trial.try_apply_away.Goals as goal

@@ -1,4 +1,4 @@
-use Rattle.std.proofs.Common.{◌-◌, refl, ◌∙◌, rules}
+use Rattle.std.proofs.Common.{refl, ◌∙◌, rules}
 use Rattle.trays.proofs.Cards.{behind, tray_ends}
 use Rattle.trays.proofs.dealing.lay.Goals as goal
 
