@@ -30,10 +30,9 @@ fn answer(checked: Result<CardHead, CardFault>) -> u32
     }
 }
 
-// For C: 0 for a sound picture of a key word, mask byte or dial card, otherwise the number of the refusal.
+// 0 for a sound picture of a key word, mask byte or dial card, otherwise the number of the refusal.
 // A picture of no known kind is none of key words, so that check gives 20, 21 or 22.
-#[unsafe(no_mangle)]
-pub extern "C" fn zukhelondo_check(picture: &[u8]) -> u32
+pub fn refusal_number(picture: &[u8]) -> u32
     ensures { Judged picture.now result }
 {
     match kind_in(picture) {

@@ -1,7 +1,7 @@
--- What zukhelondo_check leaves to show: the check of each kind is the verdict on it. Assumes nothing.
+-- What refusal_number leaves to show: the check of each kind is the verdict on it. Assumes nothing.
 use Rattle.std.proofs.Common.{arith, rules}
 use Rattle.pictures.proofs.Judging.{judged_dial, judged_mask, judged_rest}
-use Rattle.pictures.proofs.from_c.zukhelondo_check.Goals as goal
+use Rattle.pictures.proofs.from_c.refusal_number.Goals as goal
 
 pub returns-in-2 : goal.returns-in-2
 returns-in-2 c = judged_mask c.args.picture.now c.check.result c.answer.result c.answer.ensures (omega arith) (search rules)
