@@ -17,7 +17,7 @@ def main():
     wanted = sys.argv[1:] or sorted(folder.name for folder in PLANTED.iterdir())
     with tempfile.TemporaryDirectory() as place:
         copy = pathlib.Path(place)
-        shutil.copytree(ROOT / "crates", copy / "crates", ignore=shutil.ignore_patterns("must-fail"))
+        shutil.copytree(ROOT / "crates", copy / "crates", ignore=shutil.ignore_patterns("must-fail", "out"))
         shutil.copy(ROOT / "crates.txt", copy)
         failed = 0
         for crate in wanted:
