@@ -287,12 +287,12 @@ struct Work {
 
 /// A sound picture of harbour 4 of 10, threshold 5, 8 components, and its codes.
 fn drawn(work: &Work) -> (Vec<u8>, Vec<u32>) {
-    let mut seed = 0x9E37_79B9_7F4A_7C15u64;
+    let mut state = 0x9E37_79B9_7F4A_7C15u64;
     let mut codes = Vec::new();
     let mut bits = Vec::new();
     for _ in 0..SLIPS {
-        seed = seed.wrapping_mul(6_364_136_223_846_793_005).wrapping_add(1_442_695_040_888_963_407);
-        let code = (seed >> 32) % work.limit;
+        state = state.wrapping_mul(6_364_136_223_846_793_005).wrapping_add(1_442_695_040_888_963_407);
+        let code = (state >> 32) % work.limit;
         codes.push(code as u32);
         bits.extend((0..work.width).rev().map(|bit| (code >> bit & 1) as u8));
     }

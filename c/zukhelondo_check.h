@@ -1,4 +1,4 @@
-/* Checks a picture of a key card. Link with the static library of the crate pictures. */
+/* Checks a picture of a key card. Link with the static library of the crate pictures_c. */
 #ifndef ZUKHELONDO_CHECK_H
 #define ZUKHELONDO_CHECK_H
 

@@ -14,7 +14,7 @@ import sys
 FOLDER = pathlib.Path(__file__).resolve().parent.parent / "crates" / "cardcheck"
 # By kind code: the name, the bits of a code, and how many elements there are.
 KINDS = {1: ("word", 32, 2**32), 2: ("mask", 8, 2**8), 3: ("dial", 14, 10_000)}
-SEED = 20_011
+START = 20_011
 
 
 def slip_count(total, size, key):
@@ -84,8 +84,8 @@ def told(data):
 class Chooser:
     """Random cards, the same on every run."""
 
-    def __init__(self, seed):
-        self.random = random.Random(seed)
+    def __init__(self, start):
+        self.random = random.Random(start)
 
     def codes(self, kind, count):
         """Codes of a kind, now and then the least or the greatest."""
@@ -202,7 +202,7 @@ def changed_pictures(chooser):
 
 def groups():
     """The pictures, each group with its title."""
-    chooser = Chooser(SEED)
+    chooser = Chooser(START)
     return [
         ("Sound pictures.", sound_pictures(chooser)),
         ("Every shorter picture and every turned bit.", harmed_pictures(chooser)),

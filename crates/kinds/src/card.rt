@@ -36,6 +36,7 @@ pub trait Card: Element {
     fn from_code(code: u32) -> Result<Self, ElementFault>
         ensures { MatchResult result (λ e. coded e ≡ code) (λ _. (e : Self) → coded e ≢ code) };
 
+    // What each kind proves: its code is one of 1 to 15, and its elements' codes take 1 to 32 bits.
     ghost numbered: { (1 ≤ kind) × (kind ≤ 15) };
 
     ghost wide: { (1 ≤ bits) × (bits ≤ 32) };

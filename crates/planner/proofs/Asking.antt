@@ -1,7 +1,6 @@
 -- What a line of three words asks for. Assumes nothing.
 use Rattle.std.proofs.Common.{◌≡◌, ℕ, List, [], ◌∷◌, inr}
 use Rattle.planner.specs.Lines.{Asks, IsNumber, Unclear, Words, written}
-use Rattle.planner.specs.declared.request.Request.{Request}
 
 module _ {line first second third : List ℕ} (three : Words line (first ∷ second ∷ third ∷ [])) where
   -- where not all are numbers, it asks for no plan

@@ -27,8 +27,8 @@ part_long k b xs fits = length-take-le k (drop (b * k) xs) (omega (arith, length
 pub map_part : {X Y : Type 0} (m : X → Y) (k b : ℕ) (xs : List X) → map m (block_of k b xs) ≡ block_of k b (map m xs)
 map_part m k b xs = sym (take-map m k (drop (b * k) xs)) ∙ ap (take k) (sym (drop-map m (b * k) xs))
 
-pub get_d_part : {X : Type 0} (k b c : ℕ) (xs : List X) (d : X) → c < k → get_or (block_of k b xs) c d ≡ get_or xs (b * k + c) d
-get_d_part k b c xs d below = get_or-take k (drop (b * k) xs) c d below ∙ get_or-drop (b * k) xs c d
+pub get_or_part : {X : Type 0} (k b c : ℕ) (xs : List X) (d : X) → c < k → get_or (block_of k b xs) c d ≡ get_or xs (b * k + c) d
+get_or_part k b c xs d below = get_or-take k (drop (b * k) xs) c d below ∙ get_or-drop (b * k) xs c d
 
 module _ (G : Group) where
   pub length_with_blocks : (k n : ℕ) (xs ys : List G.Value) → length xs ≡ k → n * k ≤ length ys → length (with_blocks G k n xs ys) ≡ k
@@ -50,7 +50,7 @@ module _ (G : Group) where
       ap (λ j. total G (map f (range_with_len 0 j))) (sym (add-one n)) ∙ ap (total G) (map-range_with_len_more f 0 n n (omega arith))
       ∙ total_append G (map f (range_with_len 0 n)) (f n ∷ []) ∙ ap (G.plus (total G (map f (range_with_len 0 n)))) (G.unit (f n)) in
       get_or_added G (with_blocks G k n xs ys) (block_of k n ys) c G.nil (omega (arith, so_far)) (so_far ∙ sym one)
-      ∙ ap₂ G.plus (get_or_with_blocks k n c xs ys long less below) (get_d_part k n c ys G.nil below)
+      ∙ ap₂ G.plus (get_or_with_blocks k n c xs ys long less below) (get_or_part k n c ys G.nil below)
       ∙ G.assoc (get_or xs c G.nil) (total G (map f (range_with_len 0 n))) (f n)
       ∙ ap (G.plus (get_or xs c G.nil)) (sym all)
 

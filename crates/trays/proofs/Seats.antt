@@ -30,7 +30,7 @@ use Rattle.trays.specs.Laying.{block_of, front, slip_at, with_blocks}
 use Rattle.trays.proofs.Direct.{first_slip, later_slip, same_list}
 use Rattle.trays.proofs.Fronts.{front_long}
 use Rattle.trays.proofs.Lengths.{random_long}
-use Rattle.trays.proofs.Parts.{get_d_part, get_or_with_blocks, length_with_blocks, part_long, parts_fit}
+use Rattle.trays.proofs.Parts.{get_or_part, get_or_with_blocks, length_with_blocks, part_long, parts_fit}
 
 pub some_number : (e : Refusal) → 1 ≤ plan.number_of e
 some_number Harbours = omega arith
@@ -155,7 +155,7 @@ module _ (p : Plan) where
     of_own g b c lb lc =
         let k : ℕ = p.components in
         let u : ℕ = p.threshold - 1 in
-        get_d_part (k * u) g (b * k + c) random G.nil (omega (arith, mul-le (b + 1) k u k (omega arith) (omega arith), mul_comm k u))
+        get_or_part (k * u) g (b * k + c) random G.nil (omega (arith, mul-le (b + 1) k u k (omega arith) (omega arith), mul_comm k u))
         ∙ ap (λ j. get_or random j G.nil) (index k u)
       where
         index : (k u : ℕ) → g * (k * u) + (b * k + c) ≡ g * k * u + b * k + c
@@ -207,7 +207,7 @@ module _ (p : Plan) where
         (λ c below. let lc : c < k = omega (arith, length-map-range_with_len f 0 k) in
         get_or-map-range_with_len f 0 k c c G.nil lc (omega arith)
         ∙ later_slip G p key random g (position (mask_at g) b) c long longer low lc some (omega arith)
-        ∙ ap (λ j. get_or random (g * k * u + j * k + c) G.nil) is ∙ sym (of_own g x c (omega arith) lc) ∙ sym (get_d_part k x c (own g) G.nil lc))
+        ∙ ap (λ j. get_or random (g * k * u + j * k + c) G.nil) is ∙ sym (of_own g x c (omega arith) lc) ∙ sym (get_or_part k x c (own g) G.nil lc))
 
     -- Both, as they are told by the sign.
     pub slips_there : (g b at : ℕ) (z : ℤ) → Seat g b at z
