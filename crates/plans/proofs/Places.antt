@@ -59,11 +59,11 @@ module _ (masks : List ℕ) (k : ℕ) where
       ∙ sym (mul-add k (sum_by (named_by masks) (range_with_len 0 b)) (named_by (take g masks) b))
 
   -- a slip on its card
-  on_card : (s : Slot) (d : Slot) → s.group < length masks → has (mask_of masks s.group) s.bit ≡ true → s.component < k
+  lies_on_card : (s : Slot) (d : Slot) → s.group < length masks → has (mask_of masks s.group) s.bit ≡ true → s.component < k
       → (k * named_by (take s.group masks) s.bit + s.component < length (card masks k s.bit))
       × (get_or (card masks k s.bit) (k * named_by (take s.group masks) s.bit + s.component) d ≡ s)
   unfolding named
-  on_card s d low member lt =
+  lies_on_card s d low member lt =
       let b : ℕ = s.bit in
       let g : ℕ = s.group in
       let front : List ℕ = filter (named b) (range_with_len 0 g) in
@@ -86,7 +86,7 @@ module _ (masks : List ℕ) (k : ℕ) where
   lies n s d names =
       let b : ℕ = s.bit in
       let back : List ℕ = range_with_len (b + 1) (n - (b + 1)) in
-      let there = on_card s d names.of_group names.of_member names.of_component in
+      let there = lies_on_card s d names.of_group names.of_member names.of_component in
       let r : ℕ = named_by (take s.group masks) b in
       let cards : range_with_len 0 n ≡ range_with_len 0 b ++ (b ∷ back) = counting_around n b names.of_harbour in
       let at : length (flat_map (card masks k) (range_with_len 0 b)) + (k * r + s.component) ≡ lies_at masks k s =

@@ -182,10 +182,10 @@ member_facts n mask = both (members n mask) (members_low n mask) (filter_passes 
 
 module _ (G : Group) (s : Scheme) where
   -- a slip of a dealing, at its place in the tray
-  pub slip_at : (key' random : List G.Value) (g b c : ℕ) → g < length s.masks → b < s.harbours → has (mask_of s.masks g) b ≡ true → c < s.components
+  pub slip_at_place : (key' random : List G.Value) (g b c : ℕ) → g < length s.masks → b < s.harbours → has (mask_of s.masks g) b ≡ true → c < s.components
       → get_or (dealing G s key' random) (place s.masks s.components g b + c) G.nil
       ≡ slip G s.masks s.components (key' ++ random) (record { group = g; position = position (mask_of s.masks g) b; component = c })
-  slip_at key' random g b c in_masks in_harbours member in_key =
+  slip_at_place key' random g b c in_masks in_harbours member in_key =
       let x : Slot = record { group = g; bit = b; component = c } in
       let there = lies s.masks s.components s.harbours x x (record { of_group = in_masks; of_harbour = in_harbours; of_member = member; of_component = in_key }) in
       get_or-map (λ y. slip G s.masks s.components (key' ++ random) (row_of s.masks y)) (tray s.masks s.harbours s.components)
@@ -203,7 +203,7 @@ module _ (G : Group) (s : Scheme) where
       ap (total G)
       (map_all (λ b. under G (sign (position mask b)) (get_or (dealing G s key' random) (place s.masks s.components g b + c) G.nil)) (λ b. row (position mask b)) (members s.harbours mask)
       (All-weaker (λ b. (b < s.harbours) × (has mask b ≡ true)) (λ b. under G (sign (position mask b)) (get_or (dealing G s key' random) (place s.masks s.components g b + c) G.nil) ≡ row (position mask b))
-      (λ b h. ap (under G (sign (position mask b))) (slip_at key' random g b c in_masks h.0 h.1 in_key)) (members s.harbours mask) (member_facts s.harbours mask))
+      (λ b h. ap (under G (sign (position mask b))) (slip_at_place key' random g b c in_masks h.0 h.1 in_key)) (members s.harbours mask) (member_facts s.harbours mask))
       ∙ sym (map_map row (position mask) (members s.harbours mask))
       ∙ ap (map row) (positions s.harbours mask ∙ ap (range_with_len 1) (members_count s.harbours mask of.1)))
       ∙ rows_restore G s.masks s.components g c key' random of.0 long in_key

@@ -7,7 +7,7 @@ use Rattle.kinds.specs.Group.{Group}
 use Rattle.sharing.specs.Calls.{fresh, Told, Call, draw, apply, discard, read, picture, reissue, audit, refusal, after, Turn, own, other, after_turn, taken_by, random_count}
 use Rattle.sharing.specs.Cover.{Readers, cover, HoldNoGroup}
 use Rattle.sharing.specs.Dealing.{Scheme, dealing, added, opposed}
-use Rattle.sharing.specs.Secrecy.{Sound, Agrees, ask_pictures, asks_picture, hands_out, reads_in, readers, turn_shift, shifts, read_in, SecrecyAsAsked}
+use Rattle.sharing.specs.Secrecy.{Sound, Agrees, ask_pictures, asks_picture, hands_out, reads_in, readers, turn_shift, shifts, read_in, Secrecy, SecrecyAsAsked}
 use Rattle.sharing.specs.Steps.{Kind, Seen, State, values, Step, Run, Dealt}
 use Rattle.sharing.proofs.Covering.{cover_length}
 use Rattle.sharing.proofs.Hiding.{Beside, call_hides, stays}
@@ -182,3 +182,7 @@ secrecy_as_asked {E} K scheme issue turns d sound d_long agree hold key₁ key�
     drawn₁ drawn₂ seen₁ seen₂ e₁ e₂ drawns
     (subst (λ (a : Told). Run K (record { told = a; tray = s₁.tray; sheet = s₁.sheet }) turns drawn₁ seen₁ e₁) deal₁.1 run₁)
     (subst (λ (a : Told). Run K (record { told = a; tray = s₂.tray; sheet = s₂.sheet }) turns drawn₂ seen₂ e₂) deal₂.1 run₂)
+
+-- a coding that agrees with meaning agrees wherever pictures are asked for
+pub secrecy : {E : Type 0} (K : Kind E) → Agrees K → Secrecy K
+secrecy K agree scheme issue turns d sound long hold = secrecy_as_asked K scheme issue turns d sound long (λ _. agree) hold

@@ -15,9 +15,9 @@ use Rattle.plans.proofs.Halves.{members_count}
 use Rattle.sharing.specs.Calls.{fresh, Told, draw, apply, discard, read, picture, reissue, audit, refusal, Turn, own, other, after_turn}
 use Rattle.sharing.specs.Cover.{Readers, cover, HoldNoGroup}
 use Rattle.sharing.specs.Dealing.{added, opposed}
-use Rattle.sharing.specs.Secrecy.{Sound, turn_shift, shifts, read_in, OppositeUndoes}
+use Rattle.sharing.specs.Secrecy.{Agrees, Sound, turn_shift, shifts, read_in, OppositeUndoes}
 use Rattle.sharing.specs.Steps.{Kind}
-use Rattle.sharing.specs.Threshold.{scheme_of, read_count, SecrecyOfPlansAsAsked}
+use Rattle.sharing.specs.Threshold.{scheme_of, read_count, SecrecyOfPlans, SecrecyOfPlansAsAsked}
 use Rattle.sharing.proofs.Alike.{all_counting}
 use Rattle.sharing.proofs.Covering.{cover_opposed}
 use Rattle.sharing.proofs.Linear.{opposed_added, opposed_append}
@@ -87,6 +87,9 @@ few_hold_none p by few g lt =
 pub secrecy_of_plans_as_asked : {E : Type 0} (K : Kind E) → SecrecyOfPlansAsAsked K
 secrecy_of_plans_as_asked K p issue turns d long agree few =
     secrecy_as_asked K (scheme_of p) issue turns d (plan_sound p) long agree (λ round. few_hold_none p (read_in K.width (scheme_of p) issue turns round) (few round))
+
+pub secrecy_of_plans : {E : Type 0} (K : Kind E) → Agrees K → SecrecyOfPlans K
+secrecy_of_plans K agree p issue turns d long few = secrecy_of_plans_as_asked K p issue turns d long (λ _. agree) few
 
 module _ (G : Group) where
   turn_opposed : (w : ℕ) (by : ℕ → Readers) (d : List G.Value) (t : Told) (x : Turn) → turn_shift G w by (opposed G d) t x ≡ opposed G (turn_shift G w by d t x)

@@ -64,8 +64,8 @@ module _ (p : Plan) where
           let placed : position_refusal (mask_at g) h ≡ 0 = ap₂ (λ x y. cond (x && y) 0 6) (lt-ltb 0 h some) in_it in
           absurd (omega (arith, is, by_position g h low, placed))
 
-  size_of : (g : ℕ) → g < group_count (shape_of p) → (ones (mask_at g) ≡ p.threshold) × (mask_at g < 2 ^ p.harbours)
-  size_of g low = passed p.harbours p.threshold (mask_at g) (of_group g low).0
+  group_size : (g : ℕ) → g < group_count (shape_of p) → (ones (mask_at g) ≡ p.threshold) × (mask_at g < 2 ^ p.harbours)
+  group_size g low = passed p.harbours p.threshold (mask_at g) (of_group g low).0
 
   -- What find tells of a group on the card of the harbour at a bit.
   pub record Seat (g b at : ℕ) (z : ℤ) : Type 0 where
@@ -84,7 +84,7 @@ module _ (p : Plan) where
       let whole : ones (m / 2 ^ n * 2 ^ n + m % 2 ^ n) ≡ ones m = ap ones (div-add-mod' m (2 ^ n)) in
       let one : length (members n m) ≡ length (members b m) + 1 =
       ap length (kept_more (has m) b) ∙ ap (λ t. length (members b m ++ cond t (b ∷ []) [])) in_it ∙ length_push (members b m) b in
-      omega (arith, cat, whole, one, members_rest n m, (size_of g low).0)
+      omega (arith, cat, whole, one, members_rest n m, (group_size g low).0)
 
   -- The place that find answers is where the front of the tray ends, and the slips fit behind it.
   pub at_front : (g b : ℕ) → g < group_count (shape_of p) → place (masks_of (shape_of p)) p.components (number_in (shape_of p) (mask_at g)) b ≡ length (front (scheme_of p) b g)
