@@ -1,3 +1,4 @@
+pub mod Codes
 pub mod Group
 pub mod Kinds
 pub mod Residue

@@ -1,11 +1,12 @@
 ghost use Rattle.std.specs.Prelude.{◌≡◌, ℕ, ◌^◌, ◌<◌, ◌≤◌, ◌↔◌, MatchResult, ◌≢◌};
 
 use crate::element::Element;
+use thiserror::Error;
 
 // Why a number is turned away on the way back from codes to elements.
-#[derive(Clone, Copy, PartialEq, Eq, Debug)]
+#[derive(Clone, Copy, PartialEq, Eq, Debug, Error)]
 pub enum ElementFault {
-    // It is the code of no element.
+    #[error("the code is no element's")]
     NotACode,
 }
 

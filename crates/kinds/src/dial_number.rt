@@ -3,6 +3,7 @@ ghost use Rattle.std.proofs.Common.{rules};
 
 use crate::card::{Card, ElementFault};
 use crate::element::Element;
+use crate::kind::Kind;
 
 // A dial number: 0 to 9,999, added modulo 10,000. It means what it holds modulo 10,000, whatever it holds.
 #[derive(Clone, Copy, Debug)]
@@ -53,7 +54,7 @@ impl Card for DialNumber {
     ghost wide = { Prim.search rules };
 
     fn kind_code() -> u8 {
-        3
+        Kind::DialNumber.code()
     }
 
     fn width() -> u32 {

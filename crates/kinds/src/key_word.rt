@@ -3,6 +3,7 @@ ghost use Rattle.std.proofs.Common.{rules};
 
 use crate::card::{Card, ElementFault};
 use crate::element::Element;
+use crate::kind::Kind;
 
 // A key word: 32 bits, added modulo 2^32.
 #[derive(Clone, Copy, Debug)]
@@ -32,6 +33,7 @@ impl Element for KeyWord {
     }
 
     fn same(&self, other: &Self) -> bool {
+        // Kept: the proof of a derived == does not know that the fields are below their type's bound.
         self.value == other.value
     }
 }
@@ -48,7 +50,7 @@ impl Card for KeyWord {
     ghost wide = { Prim.search rules };
 
     fn kind_code() -> u8 {
-        1
+        Kind::KeyWord.code()
     }
 
     fn width() -> u32 {

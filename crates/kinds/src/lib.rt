@@ -5,6 +5,7 @@ pub mod card;
 pub mod dial_number;
 pub mod element;
 pub mod key_word;
+pub mod kind;
 pub mod mask_byte;
 
 #[cfg(test)]
@@ -13,6 +14,7 @@ mod tests {
     use crate::dial_number::DialNumber;
     use crate::element::Element;
     use crate::key_word::KeyWord;
+    use crate::kind::Kind;
     use crate::mask_byte::MaskByte;
     use std::test::Fail;
 
@@ -44,5 +46,13 @@ mod tests {
         };
         assert_eq!(rt; last.sum(&KeyWord { value: 2 }).value, 1);
         assert!(rt; last.sum(&last.opposite()).same(&KeyWord::zero()));
+    }
+
+    #[test]
+    fn kinds_by_code(rt: HostRuntime) {
+        assert!(rt; Kind::try_from(1) == Ok(Kind::KeyWord));
+        assert!(rt; Kind::try_from(3) == Ok(Kind::DialNumber));
+        assert!(rt; Kind::try_from(0).is_err());
+        assert!(rt; Kind::try_from(4).is_err());
     }
 }

@@ -3,6 +3,7 @@ ghost use Rattle.std.proofs.Common.{rules};
 
 use crate::card::{Card, ElementFault};
 use crate::element::Element;
+use crate::kind::Kind;
 
 // A mask byte: eight bits, added by exclusive or, so that each is its own opposite.
 #[derive(Clone, Copy, Debug)]
@@ -30,6 +31,7 @@ impl Element for MaskByte {
     }
 
     fn same(&self, other: &Self) -> bool {
+        // Kept: the proof of a derived == does not know that the fields are below their type's bound.
         self.value == other.value
     }
 }
@@ -46,7 +48,7 @@ impl Card for MaskByte {
     ghost wide = { Prim.search rules };
 
     fn kind_code() -> u8 {
-        2
+        Kind::MaskByte.code()
     }
 
     fn width() -> u32 {
@@ -58,9 +60,8 @@ impl Card for MaskByte {
     }
 
     fn from_code(code: u32) -> Result<Self, ElementFault> {
-        match u8::try_from(code) {
-            Ok(value) => Ok(MaskByte { value }),
-            Err(_) => Err(ElementFault::NotACode),
-        }
+        u8::try_from(code)
+            .map(|value| MaskByte { value })
+            .map_err(|_| ElementFault::NotACode)
     }
 }
