@@ -1,9 +1,10 @@
 -- A group's rows of one component, under their signs, sum to the key's own column. Assumes nothing.
-use Rattle.std.proofs.Common.{◌≡◌, ℕ, zero, suc, ◌+◌, ◌-◌, ◌<◌, ◌≤◌, Bool, true, cond, ◌&&◌, ◌||◌, eqb, ltb, ◌++◌, ℤ, pos, ◌+ℤ◌, ◌*ℤ◌, fold, sym, refl, ap, ◌∙◌, subst, ap₂, add_comm, add-one, arith, w8, SFits}
+use Rattle.std.proofs.Common.{◌≡◌, ℕ, zero, suc, ◌+◌, ◌-◌, ◌<◌, ◌≤◌, Bool, true, cond, ◌&&◌, ◌||◌, eqb, ltb, ◌++◌, ℤ, pos, ◌+ℤ◌, ◌*ℤ◌, fold, sym, refl, ap, ◌∙◌, subst, ap₂, add_comm, add-one, arith, w8, SFits, to_z, of_z}
 use lib.Count.{ones}
 use Rattle.std.specs.List.{range_with_len}
 use Rattle.std.proofs.lemmas.List.Elements.{All-get_or}
 use Rattle.std.proofs.lemmas.List.Sums.{fold_push}
+use Rattle.std.proofs.lemmas.Int.{to_z-of_z}
 use Rattle.std.proofs.lemmas.Bool.{eqb-true, and_parts}
 use Rattle.std.proofs.lemmas.Bool.Decides.{nat_tests}
 use Rattle.plans.specs.Groups.{sign}
@@ -61,14 +62,21 @@ partly_whole : (size g c : ℕ) (j : Column) → 1 ≤ size → pos (partly size
 partly_whole size g c (key j) some = grind (arith, nat_tests)
 partly_whole size g c (block g' b j) some = grind (arith, nat_tests)
 
--- the running sum, with one term more, and that it fits 8 bits
-pub sum_next : (size n g c : ℕ) (j : Column) (x y : ℤ) → x ≡ sum_in size n g c j → y ≡ term size g c j (n + 1) → x +ℤ y ≡ sum_in size (n + 1) g c j
-sum_next size n g c j x y e f = ap₂ ◌+ℤ◌ e f ∙ sym (sum_more size n g c j)
-
-pub sum_fits : (size n g c : ℕ) (j : Column) (z : ℤ) → Had size g j → z ≡ sum_in size n g c j → SFits w8 z
+-- a sum so far fits 8 bits
+sum_fits : (size n g c : ℕ) (j : Column) (z : ℤ) → Had size g j → z ≡ sum_in size n g c j → SFits w8 z
 sum_fits size n g c j z had e =
     let small : SFits w8 (pos (partly size n g c j)) = record { sfits = omega (arith, partly_small size n g c j) } in
     subst (SFits w8) (sym (e ∙ sum_is size n g c j had)) small
+
+-- the sum so far with the term of the next position, as it is added in 8 bits and as it is kept in them
+pub sum_turn : (size i n g c : ℕ) (j : Column) (bits : ℕ) (y : ℤ) → i ≡ n → Had size g j → 1 ≤ i → to_z w8 bits ≡ sum_in size (i - 1) g c j → y ≡ term size g c j i → SFits w8 y
+    → SFits w8 (to_z w8 bits +ℤ to_z w8 (of_z w8 y)) × (to_z w8 (of_z w8 (to_z w8 bits +ℤ to_z w8 (of_z w8 y))) ≡ sum_in size n g c j)
+sum_turn size i n g c j bits y is had some e f small =
+    let more : i - 1 + 1 ≡ i = omega arith in
+    let whole : to_z w8 bits +ℤ to_z w8 (of_z w8 y) ≡ sum_in size n g c j =
+    ap₂ ◌+ℤ◌ e (to_z-of_z w8 y small ∙ f ∙ ap (term size g c j) (sym more)) ∙ sym (sum_more size (i - 1) g c j) ∙ ap (λ m. sum_in size m g c j) (more ∙ is) in
+    let fits = sum_fits size n g c j _ had whole in
+    (fits, to_z-of_z w8 _ fits ∙ whole)
 
 pub sum_whole : (size g c : ℕ) (j : Column) → Had size g j → 1 ≤ size → sum_in size size g c j ≡ key_only c j
 sum_whole size g c j had some = sum_is size size g c j had ∙ partly_whole size g c j some

@@ -18,8 +18,11 @@ pub struct RowLabel {
 #[derive(Clone, Copy, PartialEq, Eq, Debug)]
 pub enum ColumnLabel {
     Key(usize),
-    // Group, block and component.
-    Block(usize, usize, usize),
+    Block {
+        group: usize,
+        block: usize,
+        component: usize,
+    },
 }
 
 // A number divided by another, and what is left.
@@ -55,7 +58,11 @@ pub(crate) fn column_label(plan: &Plan, column: usize) -> ColumnLabel
     }
     let (slip, component) = divided(column - k, k);
     let (group, block) = divided(slip, plan.threshold() - 1);
-    ColumnLabel::Block(group, block, component)
+    ColumnLabel::Block {
+        group,
+        block,
+        component,
+    }
 }
 
 // Whether the entry at a row and a column is 1, in groups of so many members.
@@ -65,7 +72,11 @@ pub(crate) fn marked(threshold: usize, row: RowLabel, column: ColumnLabel) -> bo
 {
     match column {
         ColumnLabel::Key(component) => row.position == 1 && row.component == component,
-        ColumnLabel::Block(group, block, component) => {
+        ColumnLabel::Block {
+            group,
+            block,
+            component,
+        } => {
             (row.position == 1 || block == threshold - row.position)
                 && row.group == group
                 && row.component == component

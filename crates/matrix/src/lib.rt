@@ -1,14 +1,14 @@
 // The distribution matrix of a plan, entry by entry, with the signs by which a group restores the key.
 #![tactic(auto)]
 
-ghost use Rattle.std.specs.Prelude.{◌≡◌, ◌*◌, ◌≤◌, pos, if◌then◌else◌, MatchResult, nat_eq, slice_index_or};
+ghost use Rattle.std.specs.Prelude.{◌≡◌, pos, if◌then◌else◌, nat_eq, slice_index_or};
 ghost use Rattle.matrix.specs.Matrix.{columns, key, signed_sum};
 ghost use Rattle.matrix.specs.Numbers.{column_count, entry_at, entry_refusal, row_count, sum_refusal, Numbered};
 ghost use Rattle.matrix.specs.Restores.{ColumnsRestore};
 ghost use Rattle.matrix.specs.Small.{SlipsStaySmall, SlipsOfAPlanStaySmall};
 ghost use Rattle.matrix.specs.Worked.{Worked};
-ghost use Rattle.plans.specs.Refusals.{number_of};
-ghost use Rattle.plans.specs.Shape.{group_count, masks_of, shape_of};
+ghost use Rattle.plans.specs.Refusals.{Answers, Passes};
+ghost use Rattle.plans.specs.Shape.{masks_of, shape_of};
 
 use crate::labels::{column_label, marked, row_label};
 use crate::sums::group_sum;
@@ -18,32 +18,23 @@ use plans::refusal::Refusal;
 pub mod labels;
 mod sums;
 
-// How many places there are where each group has so many blocks, of k places each.
-fn in_groups(plan: &Plan, blocks: usize) -> usize
-    requires { blocks ≤ 10 }
-    ensures value { result ≡ group_count (shape_of plan.now) * (shape_of plan.now).components * blocks }
-    ensures few { result ≤ 20160 }
-{
-    plan.group_count() * plan.components() * blocks
-}
-
 // The number of rows.
 pub fn row_count(plan: &Plan) -> usize
     ensures { result ≡ row_count (shape_of plan.now) }
 {
-    in_groups(plan, plan.threshold())
+    plan.group_count() * plan.components() * plan.threshold()
 }
 
 // The number of columns.
 pub fn column_count(plan: &Plan) -> usize
     ensures { result ≡ column_count (shape_of plan.now) }
 {
-    plan.components() + in_groups(plan, plan.threshold() - 1)
+    plan.components() + plan.random_count()
 }
 
 // That a row and a column are in the matrix.
 fn inside(plan: &Plan, row: usize, column: usize) -> Result<(), Refusal>
-    ensures { MatchResult result (λ _. entry_refusal (shape_of plan.now) row column ≡ 0) (λ e. number_of e ≡ entry_refusal (shape_of plan.now) row column) }
+    ensures { Passes (entry_refusal (shape_of plan.now) row column) result }
 {
     if row >= row_count(plan) || column >= column_count(plan) {
         return Err(Refusal::PastTheMatrix);
@@ -53,7 +44,7 @@ fn inside(plan: &Plan, row: usize, column: usize) -> Result<(), Refusal>
 
 // The entry at a row and a column, 0 or 1.
 pub fn entry(plan: &Plan, row: usize, column: usize) -> Result<u8, Refusal>
-    ensures value { MatchResult result (λ e. (entry_refusal (shape_of plan.now) row column ≡ 0) × (e ≡ entry_at (shape_of plan.now) row column)) (λ e. number_of e ≡ entry_refusal (shape_of plan.now) row column) }
+    ensures value { Answers (entry_refusal (shape_of plan.now) row column) (λ e. e ≡ entry_at (shape_of plan.now) row column) result }
     ensures numbered { Numbered }
     ensures small { SlipsStaySmall × SlipsOfAPlanStaySmall }
 {
@@ -68,7 +59,7 @@ pub fn entry(plan: &Plan, row: usize, column: usize) -> Result<u8, Refusal>
 
 // That there is such a group, and then that the component and the column are in the matrix.
 fn summable(plan: &Plan, group: usize, component: usize, column: usize) -> Result<(), Refusal>
-    ensures { MatchResult result (λ _. sum_refusal (shape_of plan.now) group component column ≡ 0) (λ e. number_of e ≡ sum_refusal (shape_of plan.now) group component column) }
+    ensures { Passes (sum_refusal (shape_of plan.now) group component column) result }
 {
     if group >= plan.group_count() {
         return Err(Refusal::NoSuchGroup);
@@ -81,7 +72,7 @@ fn summable(plan: &Plan, group: usize, component: usize, column: usize) -> Resul
 
 // Over the rows of a group's component, sign times entry, summed: 1 at the component's own column and 0 at every other.
 pub fn signed_sum(plan: &Plan, group: usize, component: usize, column: usize) -> Result<i8, Refusal>
-    ensures value { MatchResult result (λ s. (sum_refusal (shape_of plan.now) group component column ≡ 0) × (s ≡ signed_sum (masks_of (shape_of plan.now)) group component (slice_index_or (columns (masks_of (shape_of plan.now)) (shape_of plan.now).components) column (key 0))) × (s ≡ (if nat_eq column component then pos 1 else pos 0))) (λ e. number_of e ≡ sum_refusal (shape_of plan.now) group component column) }
+    ensures value { Answers (sum_refusal (shape_of plan.now) group component column) (λ s. (s ≡ signed_sum (masks_of (shape_of plan.now)) group component (slice_index_or (columns (masks_of (shape_of plan.now)) (shape_of plan.now).components) column (key 0))) × (s ≡ (if nat_eq column component then pos 1 else pos 0))) result }
     ensures restores { ColumnsRestore }
 {
     summable(plan, group, component, column)?;
@@ -128,11 +119,7 @@ mod tests {
     #[test]
     fn past_the_matrix(rt: HostRuntime) -> Result<(), Fail> {
         let plan = Plan::new(2, 2, 2)?;
-        let number = match entry(&plan, 4, 0) {
-            Ok(_) => 0,
-            Err(refusal) => refusal.number(),
-        };
-        assert_eq!(rt; number, 7);
+        assert_eq!(rt; entry(&plan, 4, 0).err().map(Refusal::number), Some(7));
         Ok(())
     }
 

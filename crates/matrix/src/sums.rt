@@ -27,10 +27,10 @@ pub(crate) fn group_sum(threshold: usize, group: usize, component: usize, column
     ensures restores { result ≡ key_only component (column_named column) }
 {
     let mut sum = 0i8;
-    for i in 0..threshold {
+    for position in 1..=threshold {
         let row = RowLabel {
             group,
-            position: i + 1,
+            position,
             component,
         };
         sum += signed(threshold, row, column);

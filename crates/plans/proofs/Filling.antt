@@ -1,9 +1,8 @@
 -- One turn of the loops that fill a table. Assumes nothing.
-use Rattle.std.proofs.Common.{◌≡◌, ℕ, suc, ◌+◌, ◌-◌, ◌*◌, ◌/◌, ◌%◌, ◌^◌, ◌<◌, ◌≤◌, Bool, true, false, cond, eqb, List, [], ◌∷◌, ◌++◌, map, length, take, set, replicate, count_by, filter, sym, ap, ◌∙◌, ap₂, append_assoc, arith}
+use Rattle.std.proofs.Common.{◌≡◌, ℕ, suc, ◌+◌, ◌-◌, ◌*◌, ◌%◌, ◌^◌, ◌<◌, ◌≤◌, Bool, true, false, cond, eqb, List, [], ◌∷◌, ◌++◌, length, set, replicate, count_by, filter, sym, ap, ◌∙◌, append_assoc, arith}
 use lib.Count.{ones}
 use Rattle.std.specs.List.{range_with_len}
-use Rattle.std.proofs.lemmas.List.{set_at, append-nil, take_more_set}
-use Rattle.std.proofs.lemmas.List.FromFn.{map-range_with_len_more}
+use Rattle.std.proofs.lemmas.List.{set_at, append-nil}
 use Rattle.std.proofs.lemmas.Nat.{one_shl}
 use Rattle.std.proofs.lemmas.List.Sums.{length-filter}
 use Rattle.std.proofs.lemmas.Bool.{eq-eqb, ne_eqb}
@@ -60,9 +59,3 @@ filled_all n t mask count masks few end f = (
   omega (arith, f.0 ∙ ap (λ m. count_by (λ x. eqb (ones x) t) (range_with_len 0 m)) end ∙ count_size n t, choose_fits n t few),
   f.1 ∙ ap (λ m. filter (λ x. eqb (ones x) t) (range_with_len 0 m) ++ replicate (252 - count) 0) end,
 )
-
--- one more count of the triangle
-pub triangle_more : (xs : List ℕ) (i v : ℕ) → i < length xs → v ≡ choose (i / 11) (i % 11) → take i xs ≡ map (λ j. choose (j / 11) (j % 11)) (range_with_len 0 i)
-    → take (i + 1) (set xs i v) ≡ map (λ j. choose (j / 11) (j % 11)) (range_with_len 0 (i + 1))
-triangle_more xs i v lt is front =
-    take_more_set xs i v lt ∙ ap₂ (λ ys y. ys ++ (y ∷ [])) front is ∙ sym (map-range_with_len_more (λ j. choose (j / 11) (j % 11)) 0 i i (omega arith))

@@ -7,4 +7,3 @@ pub mod Halves
 pub mod Joining
 pub mod Places
 pub mod Ranks
-pub mod Tables

@@ -1,5 +1,5 @@
 -- Which refusal a call gives, by its number, and 0 where it gives none. Assumes nothing.
-use Rattle.std.specs.Prelude.{ℕ, ◌^◌, Bool, cond, not, ◌||◌, ◌==◌, count_ones, nat_le, nat_lt}
+use Rattle.std.specs.Prelude.{◌≡◌, ℕ, ◌^◌, Bool, cond, not, ◌||◌, Result, MatchResult, ◌==◌, count_ones, nat_le, nat_lt}
 use Rattle.plans.specs.Groups.{member}
 use Rattle.plans.specs.declared.refusal.Refusal.{Refusal}
 use Rattle.plans.specs.declared.refusal.Refusal.TheVariants.{Harbours, Threshold, Components, NoSuchGroup, NotAGroup, NotAMember, PastTheMatrix}
@@ -12,6 +12,14 @@ number_of NoSuchGroup = 4
 number_of NotAGroup = 5
 number_of NotAMember = 6
 number_of PastTheMatrix = 7
+
+-- What a test answers: it passes where the refusal is 0, and otherwise gives that refusal.
+abbrev pub Passes : ℕ → Result Unit Refusal → Type 0
+Passes n r = MatchResult r (λ _. n ≡ 0) (λ e. number_of e ≡ n)
+
+-- What a call answers: the right thing where the refusal is 0, and otherwise that refusal.
+abbrev pub Answers : {X : Type 0} → ℕ → (X → Type 0) → Result X Refusal → Type 0
+Answers n Right r = MatchResult r (λ x. (n ≡ 0) × Right x) (λ e. number_of e ≡ n)
 
 -- Whether a number lies outside low to high.
 abbrev pub outside : ℕ → ℕ → ℕ → Bool

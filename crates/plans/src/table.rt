@@ -1,7 +1,7 @@
-ghost use Rattle.std.specs.Prelude.{◌≡◌, ◌-◌, ◌*◌, ◌≤◌, ◌++◌, take, replicate};
+ghost use Rattle.std.specs.Prelude.{◌≡◌, ◌-◌, ◌≤◌, ◌++◌, replicate};
 ghost use Rattle.plans.specs.Binomial.{choose};
 ghost use Rattle.plans.specs.Groups.{groups};
-ghost use Rattle.plans.specs.Triangle.{triangle};
+ghost use Rattle.plans.specs.Triangle.{IsTriangle};
 
 use crate::plan::Plan;
 
@@ -11,11 +11,11 @@ pub struct Table {
     plan: Plan,
     masks: [u16; 252],
     count: usize,
-    binomials: [u16; 110],
+    binomials: [[u16; 11]; 10],
     ghost counted: { count ≡ choose plan.harbours plan.threshold },
     ghost few: { count ≤ 252 },
     ghost listed: { masks ≡ groups plan.harbours plan.threshold ++ replicate (252 - count) 0 },
-    ghost chosen: { take (11 * plan.harbours) binomials ≡ triangle plan.harbours },
+    ghost chosen: { IsTriangle 10 11 binomials },
 }
 
 mod find;

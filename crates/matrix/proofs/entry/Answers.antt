@@ -1,17 +1,15 @@
 -- What the code of `entry` leaves to show. Assumes nothing.
-use Rattle.std.proofs.lemmas.Result.{err_from_is_err_and}
 use Rattle.plans.specs.Shape.{shape_of}
 use Rattle.matrix.proofs.Entries.{inside, entry_byte}
 use Rattle.matrix.proofs.Numbered.{numbered}
 use Rattle.matrix.proofs.Small.{slips_stay_small, slips_of_a_plan_stay_small}
 use Rattle.matrix.proofs.entry.Goals as goal
 
-pub returns-in_err-inside : goal.returns-in_err-inside
-returns-in_err-inside c = record {
-  value = let p = err_from_is_err_and c.from_residual.result c.from_residual.ensures.1 in rw (p.1, p.2) c.in_err-inside.ensures;
-  numbered = numbered;
-  small = (slips_stay_small, slips_of_a_plan_stay_small);
-}
+pub returns-in_err-inside-clause-numbered : goal.returns-in_err-inside-clause-numbered
+returns-in_err-inside-clause-numbered c = numbered
+
+pub returns-in_err-inside-clause-small : goal.returns-in_err-inside-clause-small
+returns-in_err-inside-clause-small c = (slips_stay_small, slips_of_a_plan_stay_small)
 
 pub returns : goal.returns
 returns c =

@@ -1,17 +1,13 @@
 -- What the code of `signed_sum` leaves to show. Assumes nothing.
 use Rattle.std.proofs.Common.{◌∙◌, w8}
-use Rattle.std.proofs.lemmas.Result.{err_from_is_err_and}
 use Rattle.std.proofs.lemmas.Int.{to_z-of_z}
 use Rattle.plans.specs.Shape.{shape_of}
 use Rattle.matrix.proofs.Entries.{summable, signed_is, key_only_lem}
 use Rattle.matrix.proofs.Restores.{columns_restore}
 use Rattle.matrix.proofs.signed_sum.Goals as goal
 
-pub returns-in_err-summable : goal.returns-in_err-summable
-returns-in_err-summable c = record {
-  value = let p = err_from_is_err_and c.from_residual.result c.from_residual.ensures.1 in rw (p.1, p.2) c.in_err-summable.ensures;
-  restores = columns_restore;
-}
+pub returns-in_err-summable-clause-restores : goal.returns-in_err-summable-clause-restores
+returns-in_err-summable-clause-restores c = columns_restore
 
 pub returns : goal.returns
 returns c =
@@ -21,6 +17,6 @@ returns c =
     let own = key_only_lem (shape_of c.args.plan.now) c.args.component c.args.column c.column_label-label.result asked.1 c.column_label-label.ensures in
     let bits = to_z-of_z w8 c.group_sum.result (record { sfits = c.group_sum.type_inv }) in
     record {
-      value = (c.in_ok-summable.ensures, bits ∙ c.group_sum.ensures.value ∙ whole, bits ∙ c.group_sum.ensures.restores ∙ own);
+      value = (c.in_ok-summable.ensures, (bits ∙ c.group_sum.ensures.value ∙ whole, bits ∙ c.group_sum.ensures.restores ∙ own));
       restores = columns_restore;
     }

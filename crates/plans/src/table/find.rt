@@ -1,14 +1,15 @@
-ghost use Rattle.std.specs.Prelude.{◌≡◌, ◌+◌, ◌-◌, ◌*◌, ◌<◌, ◌≤◌, MatchResult};
+ghost use Rattle.std.specs.Prelude.{◌≡◌, ◌+◌, ◌-◌, ◌*◌, ◌<◌, ◌≤◌};
 ghost use Rattle.plans.specs.Binomial.{choose};
 ghost use Rattle.plans.specs.Calls.{Found, Numbers};
 ghost use Rattle.plans.specs.Groups.{members, on_card, weighed};
-ghost use Rattle.plans.specs.Refusals.{mask_refusal, number_of};
+ghost use Rattle.plans.specs.Refusals.{Passes, mask_refusal};
 ghost use Rattle.plans.specs.Shape.{shape_of};
 
 use crate::mask::{has_bit, position};
 use crate::refusal::Refusal;
 use crate::sign::sign;
 use crate::table::Table;
+use std::cmp::Ordering;
 
 impl Table {
     // C(n, r), from the table.
@@ -18,20 +19,17 @@ impl Table {
         ensures value { result ≡ choose n r }
         ensures few { result ≤ 252 }
     {
-        self.binomials[11 * n + r] as usize
+        self.binomials[n][r] as usize
     }
 
     // Refuses a mask that is no group.
     fn judge(&self, mask: u16) -> Result<(), Refusal>
-        ensures { MatchResult result (λ _. mask_refusal self.now.plan.harbours self.now.plan.threshold mask ≡ 0) (λ e. number_of e ≡ mask_refusal self.now.plan.harbours self.now.plan.threshold mask) }
+        ensures { Passes (mask_refusal self.now.plan.harbours self.now.plan.threshold mask) result }
     {
-        if mask == 0 {
-            return Err(Refusal::NotAGroup);
-        }
-        if mask.count_ones() as usize != self.plan.threshold() {
-            return Err(Refusal::NotAGroup);
-        }
-        if mask >> self.plan.harbours() != 0 {
+        if mask == 0
+            || mask.count_ones() as usize != self.plan.threshold()
+            || mask >> self.plan.harbours() != 0
+        {
             return Err(Refusal::NotAGroup);
         }
         Ok(())
@@ -45,13 +43,11 @@ impl Table {
         ensures value { result ≡ on_card left_out bit position }
         ensures few { result ≤ 252 }
     {
-        if bit < left_out {
-            return self.chosen(bit, position);
+        match bit.cmp(&left_out) {
+            Ordering::Less => self.chosen(bit, position),
+            Ordering::Equal => 0,
+            Ordering::Greater => self.chosen(bit - 1, position - 1),
         }
-        if bit > left_out {
-            return self.chosen(bit - 1, position - 1);
-        }
-        0
     }
 
     // The rank of a mask among those with as many bits, or on a harbour's card, with that harbour's bit left out.

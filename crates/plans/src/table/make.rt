@@ -2,11 +2,12 @@ ghost use Rattle.std.specs.Prelude.{◌≡◌, ◌-◌, ◌*◌, ◌≤◌, ◌+
 ghost use Rattle.plans.specs.Binomial.{choose};
 ghost use Rattle.plans.specs.Groups.{groups};
 ghost use Rattle.plans.specs.Shape.{group_count, masks_of, shape_of};
-ghost use Rattle.plans.specs.Triangle.{triangle};
+ghost use Rattle.plans.specs.Triangle.{IsRow, IsTriangle};
 
 use crate::binomial::binomial;
 use crate::plan::Plan;
 use crate::table::Table;
+use std::array;
 
 // Writes the masks of so many harbours with so many bits, rising, and answers how many they are.
 fn fill_masks(harbours: usize, threshold: usize, masks: &mut [u16]) -> usize
@@ -26,15 +27,23 @@ fn fill_masks(harbours: usize, threshold: usize, masks: &mut [u16]) -> usize
     count
 }
 
-// Writes the first rows of the binomial triangle, eleven places to a row.
-fn fill_binomials(rows: usize, binomials: &mut [u16])
-    requires few { rows ≤ 10 }
-    requires long { length binomials.old ≡ 110 }
-    ensures { take (11 * rows) binomials.new ≡ triangle rows }
+// A row of the binomial triangle.
+fn triangle_row(n: usize) -> [u16; 11]
+    requires { n ≤ 10 }
+    ensures { IsRow 11 n result }
 {
-    for i in 0..11 * rows {
-        binomials[i] = binomial(i / 11, i % 11) as u16;
+    let mut row = [0u16; 11];
+    for (r, place) in row.iter_mut().enumerate() {
+        *place = binomial(n, r) as u16;
     }
+    row
+}
+
+// The first rows of the binomial triangle.
+fn triangle() -> [[u16; 11]; 10]
+    ensures { IsTriangle 10 11 result }
+{
+    array::from_fn(triangle_row)
 }
 
 impl Plan {
@@ -45,14 +54,12 @@ impl Plan {
         ensures masks { result.masks ≡ masks_of (shape_of self.now) ++ replicate (252 - group_count (shape_of self.now)) 0 }
     {
         let mut masks = [0u16; 252];
-        let mut binomials = [0u16; 110];
         let count = fill_masks(self.harbours(), self.threshold(), &mut masks);
-        fill_binomials(self.harbours(), &mut binomials);
         Table {
             plan: *self,
             masks,
             count,
-            binomials,
+            binomials: triangle(),
         }
     }
 }

@@ -20,16 +20,16 @@ impl Table {
         ensures value { result.now ≡ masks_of (shape_of self.now.plan) }
         ensures undoes { Undoes }
     {
-        &self.masks[0..self.count]
+        &self.masks[..self.count]
     }
 
     // The mask of the group with this number.
     pub fn group(&self, number: usize) -> Result<u16, Refusal>
         ensures { Grouped (shape_of self.now.plan) number result }
     {
-        if number >= self.count {
-            return Err(Refusal::NoSuchGroup);
-        }
-        Ok(self.masks[number])
+        self.masks()
+            .get(number)
+            .copied()
+            .ok_or(Refusal::NoSuchGroup)
     }
 }

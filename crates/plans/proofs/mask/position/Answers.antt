@@ -1,5 +1,5 @@
 use Rattle.std.proofs.Common.{◌≤◌, sym, arith, rules}
-use Rattle.std.proofs.lemmas.Nat.{one_shl, pow_pos}
+use Rattle.std.proofs.lemmas.Nat.{one_shl}
 use Rattle.plans.proofs.Halves.{member_within, members_rest}
 use Rattle.plans.proofs.mask.position.Goals as goal
 
@@ -11,9 +11,6 @@ overflow_cast-below c = record { fits = omega (arith, within c) }
 
 pub overflow_shl-below : goal.overflow_shl-below
 overflow_shl-below c = omega (arith, within c)
-
-pub nonzero_rem-below : goal.nonzero_rem-below
-nonzero_rem-below c = let w = within c in search (rules, one_shl, pow_pos)
 
 pub returns : goal.returns
 returns c = let w = within c in search (rules, one_shl, members_rest)

@@ -1,7 +1,9 @@
-use Rattle.std.proofs.Common.{rules}
+use Rattle.std.proofs.Common.{◌<◌, arith}
 use Rattle.plans.proofs.Choose.{choose_fits}
-use Rattle.plans.proofs.Tables.{count_at}
 use Rattle.plans.proofs.table.Table.chosen.Goals as goal
 
-pub returns : goal.returns
-returns c = record { value = search (rules, count_at); few = search (rules, count_at, choose_fits) }
+pub returns-clause-few : goal.returns-clause-few
+returns-clause-few c =
+    let row : c.args.n < 10 = omega (arith, c.requires.row, c.args.self.now.plan.few) in
+    let column : c.args.r < 11 = omega (arith, c.requires.column) in
+    omega (arith, c.args.self.now.chosen c.args.n row c.args.r column, choose_fits c.args.n c.args.r (omega (arith, row)))
