@@ -19,10 +19,12 @@ pub trait Card: Element {
     ghost bits: { ℕ };
 
     // The number that tells this kind from others in a picture.
+    // Kept: a number and no `Kind`, since whoever writes a further kind brings a code of its own.
     fn kind_code() -> u8
         ensures { result ≡ kind };
 
     // How many bits a code takes.
+    // Kept: code and width are functions by rule; as constants each kind would name them twice, for code and for clauses.
     fn width() -> u32
         ensures { result ≡ bits };
 

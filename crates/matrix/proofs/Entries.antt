@@ -64,10 +64,6 @@ pub key_only_lem : (s : Shape) (c n : ℕ) (j : ColumnLabel) → c < s.component
 key_only_lem s c n (Key j) l at = ap (λ m. cond (eqb m c) (pos 1) (pos 0)) (sym at.0)
 key_only_lem s c n (Block g b j) l at = grind (arith, nat_tests)
 
-pub block_in : (s : Shape) (n : ℕ) (j : ColumnLabel) → ColumnAt s n j → BlockIn s.threshold j
-block_in s n (Key c) at = tt
-block_in s n (Block g b c) at = at.1
-
 pub had : (size g : ℕ) (j : ColumnLabel) → BlockIn size j → Had size g (column_named j)
 had size g (Key c) h = tt
 had size g (Block g' b c) h = λ _. h

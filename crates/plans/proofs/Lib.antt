@@ -5,5 +5,6 @@ pub mod Filling
 pub mod Finding
 pub mod Halves
 pub mod Joining
+pub mod Numbered
 pub mod Places
 pub mod Ranks

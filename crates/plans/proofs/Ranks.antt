@@ -1,15 +1,16 @@
 -- How many groups there are, how many name a harbour, and a group's number, among all and on a card. Assumes nothing.
-use Rattle.std.proofs.Common.{◌≡◌, ℕ, zero, suc, ◌+◌, ◌-◌, ◌*◌, ◌^◌, ◌<◌, ◌≤◌, Bool, true, false, cond, ◌&&◌, eqb, ltb, ◌⊎◌, List, [], ◌∷◌, ◌++◌, length, All, count_by, sym, refl, ap, ◌∙◌, ap₂, inl, inr, ⊎_elim, not-suc-le-zero, add-zero, add_assoc, add_comm, pow-suc, zero-add, add-one, arith}
+use Rattle.std.proofs.Common.{◌≡◌, ℕ, zero, suc, ◌+◌, ◌-◌, ◌*◌, ◌^◌, ◌<◌, ◌≤◌, Bool, true, false, cond, ◌&&◌, eqb, ltb, ◌⊎◌, List, [], ◌∷◌, ◌++◌, length, get_or, All, count_by, sum_by, sym, refl, ap, ◌∙◌, ap₂, inl, inr, ⊎_elim, not-suc-le-zero, add-zero, add_assoc, add_comm, pow-suc, zero-add, add-one, arith}
 use lib.Count.{ones}
 use lib.Dec.{eqb-suc-suc}
-use Rattle.std.specs.List.{range_with_len}
-use Rattle.std.proofs.lemmas.List.Elements.{All-cons, All-filter, All-head, All-nil, All-tail, All-weaker}
-use Rattle.std.proofs.lemmas.List.{append-nil, length_push}
-use Rattle.std.proofs.lemmas.List.Sums.{length-filter}
+use Rattle.std.specs.List.{range_with_len, enumerate_from}
+use Rattle.std.proofs.lemmas.List.Elements.{All-cons, All-filter, All-get_or, All-head, All-nil, All-tail, All-weaker}
+use Rattle.std.proofs.lemmas.List.{append-nil}
+use Rattle.std.proofs.lemmas.List.FromFn.{length-range_with_len, length-enumerate_from, get_or-enumerate_from}
+use Rattle.std.proofs.lemmas.List.Sums.{length-filter, count_by-le-length, sum_by-cons}
 use Rattle.std.proofs.lemmas.Bool.{ne_eqb, lt-ltb, le-ltb, cases_eq, and_left, and_right, true≢false, cases_Bool}
 use Rattle.plans.specs.Binomial.{choose}
 use Rattle.plans.specs.Groups.{has, members, groups, weighed, rank, on_card}
-use Rattle.plans.proofs.Choose.{choose_none, choose_step}
+use Rattle.plans.proofs.Choose.{choose_none, choose_step, choose_fits}
 use Rattle.plans.proofs.Counting.{kept_more, count_by_cons, count_by_alike, count_by_split, count_by_none}
 use Rattle.plans.proofs.Halves.{ones_none, ones_more, has_new, has_past, has_below, split_top, members_below, members_count}
 
@@ -211,23 +212,41 @@ pub rank_on_none : (n m : ℕ) → weighed (on_card n) 1 (members n m) ≡ rank 
 rank_on_none n m =
     weighed_alike (on_card n) choose 1 (members n m) (All-weaker (λ q. q < n) (λ q. (i : ℕ) → on_card n q i ≡ choose q i) (λ q u i. on_card_below n q i u) (members n m) (members_low n m))
 
--- the position and the sum after the first b bits of a mask
-abbrev pub Ranked : (ℕ → ℕ → ℕ) → ℕ → ℕ → ℕ → ℕ → Type 0
-Ranked w m b position sum =
-    (position ≡ length (members b m)) × (sum ≡ weighed w 1 (members b m)) × (position ≤ b) × (sum ≤ 252 * b)
+-- a bit among the first ten adds 252 at most
+on_card_few : (p q j : ℕ) → q ≤ 10 → on_card p q j ≤ 252
+on_card_few p q j h = go (ltb q p) (ltb p q)
+  where
+    go : (below above : Bool) → cond below (choose q j) (cond above (choose (q - 1) (j - 1)) 0) ≤ 252
+    go true above = choose_fits q j h
+    go false true = choose_fits (q - 1) (j - 1) (omega arith)
+    go false false = omega arith
 
-pub ranked_takes : (w : ℕ → ℕ → ℕ) (m b position sum v position' sum' : ℕ) → Ranked w m b position sum → true ≡ has m b → v ≡ w b (position + 1) → v ≤ 252
-    → position' ≡ position + 1 → sum' ≡ sum + v → Ranked w m (b + 1) position' sum'
-ranked_takes w m b position sum v position' sum' r there is few p_is s_is =
-    let more : members (b + 1) m ≡ members b m ++ (b ∷ []) = kept_more (has m) b ∙ ap (λ t. members b m ++ cond t (b ∷ []) []) (sym there) in
-    let turned : 1 + length (members b m) ≡ position + 1 = omega (arith, r.0) in
-    let longer : length (members (b + 1) m) ≡ length (members b m) + 1 = ap length more ∙ length_push (members b m) b in
-    let heavier : weighed w 1 (members (b + 1) m) ≡ weighed w 1 (members b m) + w b (position + 1) =
-    ap (weighed w 1) more ∙ weighed_push w 1 (members b m) b ∙ ap (λ j. weighed w 1 (members b m) + w b j) turned in
-    (omega (arith, r.0, longer), omega (arith, r.1, heavier, is), omega (arith, r.2), omega (arith, r.3))
+weighed_few : (p n j : ℕ) (qs : List ℕ) → n ≤ 10 → All (λ q. q < n) qs → weighed (on_card p) j qs ≤ 252 * length qs
+weighed_few p n j [] few h = omega arith
+weighed_few p n j (q ∷ qs) few h =
+    let low : q < n = All-head (λ x. x < n) q qs h in
+    omega (arith, on_card_few p q j (omega arith), weighed_few p n (suc j) qs few (All-tail (λ x. x < n) q qs h))
 
-pub ranked_passes : (w : ℕ → ℕ → ℕ) (m b position sum position' sum' : ℕ) → Ranked w m b position sum → false ≡ has m b
-    → position' ≡ position → sum' ≡ sum → Ranked w m (b + 1) position' sum'
-ranked_passes w m b position sum position' sum' r none p_is s_is =
-    let same : members (b + 1) m ≡ members b m = kept_more (has m) b ∙ ap (λ t. members b m ++ cond t (b ∷ []) []) (sym none) ∙ append-nil (members b m) in
-    (p_is ∙ r.0 ∙ ap length (sym same), s_is ∙ r.1 ∙ ap (weighed w 1) (sym same), omega (arith, r.2), omega (arith, r.3))
+-- no more members than bits
+members_few : (n m : ℕ) → length (members n m) ≤ n
+members_few n m = omega (arith, length-filter (has m) (range_with_len 0 n), count_by-le-length (has m) (range_with_len 0 n), length-range_with_len 0 n)
+
+-- ten bits add 252 each at most
+pub ranked_few : (p n m : ℕ) → n ≤ 10 → weighed (on_card p) 1 (members n m) ≤ 2520
+ranked_few p n m few = omega (arith, weighed_few p n 1 (members n m) few (members_low n m), members_few n m)
+
+-- each member comes behind fewer than n others
+pub member_numbered : (n m k : ℕ) (x : ℕ × ℕ) → k < length (enumerate_from 0 (members n m)) → x ≡ get_or (enumerate_from 0 (members n m)) k x → (x.0 < n) × (x.1 < n)
+member_numbered n m k x lt is =
+    let within : k < length (members n m) = omega (arith, length-enumerate_from 0 (members n m)) in
+    let found : x ≡ (0 + k, get_or (members n m) k x.1) = is ∙ get_or-enumerate_from 0 (members n m) k x within in
+    let number : x.0 ≡ 0 + k = ap (λ p. p.0) found in
+    let bit : x.1 ≡ get_or (members n m) k x.1 = ap (λ p. p.1) found in
+    (omega (arith, members_few n m), omega (arith, All-get_or (λ q. q < n) (members n m) k x.1 within (members_low n m)))
+
+-- a sum by position, where each bit comes with how many were before it
+pub weighed_numbered : (w : ℕ → ℕ → ℕ) (j : ℕ) (ps : List ℕ) → sum_by (λ p. w p.1 (p.0 + 1)) (enumerate_from j ps) ≡ weighed w (j + 1) ps
+weighed_numbered w j [] = refl
+weighed_numbered w j (p ∷ ps) =
+    sum_by-cons (λ x. w x.1 (x.0 + 1)) (j, p) (enumerate_from (j + 1) ps)
+    ∙ ap (λ n. w p (j + 1) + n) (weighed_numbered w (j + 1) ps ∙ ap (λ i. weighed w i ps) (add-one (j + 1)))

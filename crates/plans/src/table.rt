@@ -9,6 +9,7 @@ use crate::plan::Plan;
 #[derive(Drop)]
 pub struct Table {
     plan: Plan,
+    // Kept: the library allocates nothing, so the masks stand in an array, with their count beside it.
     masks: [u16; 252],
     count: usize,
     binomials: [[u16; 11]; 10],

@@ -55,15 +55,11 @@ impl Table {
         ensures value { result ≡ weighed (on_card left_out) 1 (members self.now.plan.harbours mask) }
         ensures few { result ≤ 2520 }
     {
-        let mut position = 0;
-        let mut rank = 0;
-        for bit in 0..self.plan.harbours() {
-            if has_bit(mask, bit) {
-                position += 1;
-                rank += self.adds(bit, position, left_out);
-            }
-        }
-        rank
+        (0..self.plan.harbours())
+            .filter(|&bit| has_bit(mask, bit))
+            .enumerate()
+            .map(|(below, bit)| self.adds(bit, below + 1, left_out))
+            .sum()
     }
 
     // The number of the group with this mask, C(p1, 1) + .. + C(pt, t) over its bits.
@@ -85,6 +81,7 @@ impl Table {
     }
 
     // Where a group's slips begin on a member's card, as a place in the tray, and the sign under which they restore the key.
+    // Kept: place and number of the sign by rule, as a pair.
     pub fn find(&self, mask: u16, harbour: usize) -> Result<(usize, i8), Refusal>
         ensures { Found (shape_of self.now.plan) mask harbour result }
     {

@@ -9,22 +9,16 @@ use crate::plan::Plan;
 use crate::table::Table;
 use std::array;
 
-// Writes the masks of so many harbours with so many bits, rising, and answers how many they are.
-fn fill_masks(harbours: usize, threshold: usize, masks: &mut [u16]) -> usize
+// Writes the masks of so many harbours with so many bits, rising.
+fn fill_masks(harbours: usize, threshold: usize, masks: &mut [u16])
     requires few { harbours ≤ 10 }
     requires clear { masks.old ≡ replicate 252 0 }
-    ensures count { result ≡ choose harbours threshold }
-    ensures few { result ≤ 252 }
-    ensures listed { masks.new ≡ groups harbours threshold ++ replicate (252 - result) 0 }
+    ensures { masks.new ≡ groups harbours threshold ++ replicate (252 - choose harbours threshold) 0 }
 {
-    let mut count = 0;
-    for mask in 0..1u16 << harbours {
-        if mask.count_ones() as usize == threshold {
-            masks[count] = mask;
-            count += 1;
-        }
+    let groups = (0..1u16 << harbours).filter(|mask| mask.count_ones() as usize == threshold);
+    for (number, mask) in groups.enumerate() {
+        masks[number] = mask;
     }
-    count
 }
 
 // A row of the binomial triangle.
@@ -54,11 +48,11 @@ impl Plan {
         ensures masks { result.masks ≡ masks_of (shape_of self.now) ++ replicate (252 - group_count (shape_of self.now)) 0 }
     {
         let mut masks = [0u16; 252];
-        let count = fill_masks(self.harbours(), self.threshold(), &mut masks);
+        fill_masks(self.harbours(), self.threshold(), &mut masks);
         Table {
             plan: *self,
             masks,
-            count,
+            count: self.group_count(),
             binomials: triangle(),
         }
     }
