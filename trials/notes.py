@@ -26,10 +26,11 @@ def table(path):
 
 
 def reached(crates, names):
-    """The crates that some crates reach, with those that they depend on first."""
+    """The crates of the repository that some crates reach, with those that they depend on first."""
     found = []
     for name in names:
-        found += [other for other in reached(crates, crates[name]) + [name] if other not in found]
+        if name in crates:
+            found += [other for other in reached(crates, crates[name]) + [name] if other not in found]
     return found
 
 

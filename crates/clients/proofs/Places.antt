@@ -1,20 +1,24 @@
--- A loop that compares two lists place by place. Assumes nothing.
-use Rattle.std.proofs.Common.{◌≡◌, ℕ, ◌+◌, ◌<◌, List, map, length, get_or, take, sym, ap, ◌∙◌, arith}
-use Rattle.std.proofs.lemmas.List.{length-map, take_all, take_more_same}
-use Rattle.trays.proofs.Places.{reads_it}
+-- Two lists that are compared pair by pair. Assumes nothing.
+use Rattle.std.proofs.Common.{◌≡◌, ℕ, zero, suc, ◌<◌, Bool, true, false, T, ◌↔◌, MatchBool, List, [], ◌∷◌, map, length, refl, ap₂, arith}
+use Rattle.std.specs.List.{AllWithin, HoldsAt, zip}
 
--- Two lists that agree on so many places agree on one more, or differ as a whole.
-pub agree_more : {E V : Type 0} (m : E → V) (xs ys : List E) (i : ℕ) (x y : E) → length xs ≡ length ys → i < length xs → take i (map m xs) ≡ take i (map m ys)
-    → x ≡ get_or xs i x → y ≡ get_or ys i y → m x ≡ m y → take (i + 1) (map m xs) ≡ take (i + 1) (map m ys)
-agree_more m xs ys i x y same below so_far is is' alike =
-    take_more_same (map m xs) (map m ys) i (m x) (omega (arith, length-map xs m)) (omega (arith, length-map ys m)) so_far
-    (sym (reads_it m xs i x (m x) is below) ∙ alike ∙ reads_it m ys i y (m x) is' (omega arith))
+module _ {E V : Type 0} (m : E → V) where
+  alike : (xs ys : List E) → length xs ≡ length ys → AllWithin (λ p. m p.0 ≡ m p.1) (zip xs ys) 0 (length (zip xs ys)) → map m xs ≡ map m ys
+  alike [] [] same all = refl
+  alike [] (y ∷ ys) same all = absurd (omega arith)
+  alike (x ∷ xs) [] same all = absurd (omega arith)
+  alike (x ∷ xs) (y ∷ ys) same all =
+      ap₂ ◌∷◌ (all 0 (x, y) (omega arith) (omega arith)) (alike xs ys (omega arith) (λ k d low high. all (suc k) d (omega arith) (omega arith)))
 
-pub agree_all : {E V : Type 0} (m : E → V) (xs ys : List E) (i : ℕ) → length xs ≡ length ys → length xs ≡ i → take i (map m xs) ≡ take i (map m ys) → map m xs ≡ map m ys
-agree_all m xs ys i same all so_far =
-    sym (take_all i (map m xs) (omega (arith, length-map xs m))) ∙ so_far ∙ take_all i (map m ys) (omega (arith, length-map ys m))
+  apart : (xs ys : List E) (k : ℕ) → k < length (zip xs ys) → HoldsAt (λ p. m p.0 ≡ m p.1 → ⊥) (zip xs ys) k → map m xs ≡ map m ys → ⊥
+  apart [] ys k low holds same = omega arith
+  apart (x ∷ xs) [] k low holds same = omega arith
+  apart (x ∷ xs) (y ∷ ys) zero low holds same = holds (x, y) (cc)
+  apart (x ∷ xs) (y ∷ ys) (suc k) low holds same = apart xs ys k (omega arith) holds (cc)
 
-pub alike_at : {E V : Type 0} (m : E → V) (xs ys : List E) (i : ℕ) (x y : E) → length xs ≡ length ys → i < length xs → x ≡ get_or xs i x → y ≡ get_or ys i y
-    → map m xs ≡ map m ys → m x ≡ m y
-alike_at m xs ys i x y same below is is' alike =
-    reads_it m xs i x (m x) is below ∙ ap (λ l. get_or l i (m x)) alike ∙ sym (reads_it m ys i y (m x) is' (omega arith))
+  -- What a test of every pair tells of the two lists.
+  pub decided : (xs ys : List E) → length xs ≡ length ys → (r : Bool)
+      → MatchBool r (AllWithin (λ p. m p.0 ≡ m p.1) (zip xs ys) 0 (length (zip xs ys))) ((k : ℕ) × (k < length (zip xs ys)) × HoldsAt (λ p. m p.0 ≡ m p.1 → ⊥) (zip xs ys) k)
+      → T r ↔ (map m xs ≡ map m ys)
+  decided xs ys same true all = (λ _. alike xs ys same all, λ _. tt)
+  decided xs ys same false one = (λ none. absurd none, λ is. absurd (apart xs ys one.0 one.1 one.2 is))

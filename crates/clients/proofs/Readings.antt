@@ -1,19 +1,24 @@
 -- Two deals and one reading of each are two runs of one turn. Assumes nothing.
-use Rattle.std.proofs.Common.{◌≡◌, ℕ, zero, suc, ◌+◌, ◌-◌, ◌<◌, ◌≤◌, min, Bool, true, false, cond, ◌&&◌, eqb, List, [], ◌∷◌, map, length, take, drop, filter, sym, refl, ap, ◌∙◌, subst, ap₂, ⊎_elim, arith}
+use Rattle.std.proofs.Common.{◌≡◌, ℕ, zero, suc, ◌+◌, ◌-◌, ◌<◌, ◌≤◌, min, Bool, true, false, cond, ◌&&◌, eqb, List, [], ◌∷◌, map, length, take, drop, filter, Ok, Err, Result, sym, refl, ap, ◌∙◌, subst, ap₂, ⊎_elim, arith}
+use Rattle.std.specs.Borrow.{Bor}
 use Rattle.std.specs.List.{range_with_len}
+use Rattle.std.specs.Result.{IfOk}
 use Rattle.std.proofs.lemmas.List.{length-drop, length-take}
 use Rattle.std.proofs.lemmas.Bool.{and_parts, eqb-true, or_cases, true≢false}
 use Rattle.kinds.specs.Group.{Group}
 use Rattle.plans.specs.Layout.{card}
 use Rattle.plans.specs.declared.plan.Plan.{Plan}
 use Rattle.sharing.specs.Calls.{Told, fresh, own, random_count, read, refusal, taken_by, tray_length}
-use Rattle.sharing.specs.Dealing.{Scheme, added, card_in, card_start}
+use Rattle.sharing.specs.Dealing.{Scheme, card_in, card_start}
 use Rattle.sharing.specs.Promise.{HidesAsAsked, kind_of}
-use Rattle.sharing.specs.Secrecy.{deal_shift, read_in}
+use Rattle.sharing.specs.Secrecy.{read_in}
 use Rattle.sharing.specs.Steps.{Dealt, Kind, Run, Seen, State, Step, agrees, differs, done, handed, noted, pictured, refused, reissued, stale, wiped}
 use Rattle.sharing.specs.Threshold.{read_count, scheme_of}
 use Rattle.sharing.proofs.Turning.{fits}
-use Rattle.clients.specs.Alike.{one_reading}
+use Rattle.trays.specs.Turns.{HandsOut, ReadTurns}
+use Rattle.trays.specs.declared.refusal.Refusal.{Refusal}
+use Rattle.clients.specs.Alike.{ReadsOnce, SameCard, one_reading}
+use Rattle.clients.specs.declared.Lent.{Lent}
 
 -- At most one number passes a test that only one can pass.
 none_pass : (p : ℕ → Bool) (y a n : ℕ) → y < a → ((x : ℕ) → p x ≡ true → x ≡ y) → length (filter p (range_with_len a n)) ≡ 0
@@ -90,29 +95,32 @@ module _ {E : Type 0} (G : Group) (m : E → G.Value) (p : Plan) (issue harbour 
         (drop_nil n, refl, refl),
       )
 
+  -- A reading that follows the deal hands out the card once.
+  pub reads_once : (lent : Lent E) (s : State E) (r : Result (Bor (List E)) Refusal) → Dealt kind (scheme_of p) issue lent.key.now lent.random.now s
+      → ReadTurns G m s.told harbour s.tray r → HandsOut s.told harbour s.tray r → IfOk r (λ card. ReadsOnce G m p issue harbour lent card.now)
+  reads_once lent s r dealt turns out = go r turns out
+    where
+      go : (r : Result (Bor (List E)) Refusal) → ReadTurns G m s.told harbour s.tray r → HandsOut s.told harbour s.tray r → IfOk r (λ card. ReadsOnce G m p issue harbour lent card.now)
+      go (Ok card) turns out = (s, dealt, turns s.sheet (λ _. 0) 0 0, out)
+      go (Err e) turns out = tt
+
   -- The two cards mean the same.
-  pub cards_alike : HidesAsAsked G m → (key₁ random₁ card₁ key₂ random₂ card₂ : List E) (s₁ s₂ : State E)
-      → Dealt kind (scheme_of p) issue key₁ random₁ s₁ → Step kind s₁ (own (read harbour (length s₁.tray))) [] (handed (map m card₁)) s₁
-      → Dealt kind (scheme_of p) issue key₂ random₂ s₂ → Step kind s₂ (own (read harbour (length s₂.tray))) [] (handed (map m card₂)) s₂
-      → (d : List G.Value) → length d ≡ p.components → 2 ≤ p.threshold → map m key₂ ≡ added G (map m key₁) d
-      → map m random₂ ≡ added G (map m random₁) (deal_shift G 0 (scheme_of p) issue (one_reading p harbour) d) → map m card₁ ≡ map m card₂
+  pub cards_alike : HidesAsAsked G m → (first second : Lent E) (card₁ card₂ : List E) → ReadsOnce G m p issue harbour first card₁ → ReadsOnce G m p issue harbour second card₂
+      → SameCard G m p issue harbour first second (map m card₁ ≡ map m card₂)
   unfolding first_card
-  cards_alike hides key₁ random₁ card₁ key₂ random₂ card₂ s₁ s₂ dealt₁ step₁ dealt₂ step₂ d long some keys randoms =
+  cards_alike hides first second card₁ card₂ (s₁, dealt₁, step₁, part₁) (s₂, dealt₂, step₂, part₂) d long some keys randoms =
       ap first_card
       ((hides (λ _. 0) 0 0).1 p issue (one_reading p harbour) d long (λ asked. absurd (true≢false (sym asked)))
-      (λ round. omega (arith, few_read p issue harbour round)) key₁ key₂ random₁ random₂ [] [] s₁ s₂ s₁ s₂ (handed (map m card₁) ∷ []) (handed (map m card₂) ∷ [])
-      dealt₁ (one_run key₁ random₁ card₁ s₁ dealt₁ step₁) dealt₂ (one_run key₂ random₂ card₂ s₂ dealt₂ step₂) keys randoms refl)
+      (λ round. omega (arith, few_read p issue harbour round)) first.key.now second.key.now first.random.now second.random.now [] [] s₁ s₂ s₁ s₂ (handed (map m card₁) ∷ []) (handed (map m card₂) ∷ [])
+      dealt₁ (one_run first.key.now first.random.now card₁ s₁ dealt₁ step₁) dealt₂ (one_run second.key.now second.random.now card₂ s₂ dealt₂ step₂) keys randoms refl)
 
   abbrev card_long : Scheme → ℕ → ℕ
   card_long s n = min (length (card s.masks s.components (harbour - 1))) (n - card_start s (harbour - 1))
 
   -- Both cards are equally long.
-  pub as_long : (key₁ random₁ card₁ key₂ random₂ card₂ : List E) (s₁ s₂ : State E)
-      → Dealt kind (scheme_of p) issue key₁ random₁ s₁ → card₁ ≡ card_in s₁.told.scheme (harbour - 1) s₁.tray
-      → Dealt kind (scheme_of p) issue key₂ random₂ s₂ → card₂ ≡ card_in s₂.told.scheme (harbour - 1) s₂.tray
-      → length card₁ ≡ length card₂
-  as_long key₁ random₁ card₁ key₂ random₂ card₂ s₁ s₂ dealt₁ part₁ dealt₂ part₂ =
-      let same : length s₁.tray ≡ length s₂.tray = dealt_tray key₁ random₁ s₁ dealt₁ ∙ sym (dealt_tray key₂ random₂ s₂ dealt₂) in
+  pub as_long : (first second : Lent E) (card₁ card₂ : List E) → ReadsOnce G m p issue harbour first card₁ → ReadsOnce G m p issue harbour second card₂ → length card₁ ≡ length card₂
+  as_long first second card₁ card₂ (s₁, dealt₁, step₁, part₁) (s₂, dealt₂, step₂, part₂) =
+      let same : length s₁.tray ≡ length s₂.tray = dealt_tray first.key.now first.random.now s₁ dealt₁ ∙ sym (dealt_tray second.key.now second.random.now s₂ dealt₂) in
       ap length part₁ ∙ long s₁.told.scheme s₁.tray ∙ ap₂ card_long (ap (λ (t : Told). t.scheme) dealt₁.1) same
       ∙ sym (ap length part₂ ∙ long s₂.told.scheme s₂.tray ∙ ap (λ x. card_long x (length s₂.tray)) (ap (λ (t : Told). t.scheme) dealt₂.1))
     where

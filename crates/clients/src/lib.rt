@@ -2,24 +2,43 @@
 #![tactic(auto)]
 
 ghost use Rattle.std.specs.Prelude.{◌≡◌, true, T, ◌↔◌, map, length, IfOk};
-ghost use Rattle.clients.specs.Alike.{SameCard};
+ghost use Rattle.clients.specs.Alike.{ReadsOnce, SameCard};
+ghost use Rattle.sharing.specs.Promise.{HidesAsAsked};
 
 use kinds::element::Element;
 use plans::plan::Plan;
 use trays::record::deal::deal;
 use trays::refusal::Refusal;
 
+// What is lent to a deal: a key, its random elements, and the tray that it fills.
+#[derive(Drop)]
+pub struct Lent<'a, E> {
+    pub key: &'a [E],
+    pub random: &'a [E],
+    pub tray: &'a mut [E],
+}
+
 // Whether elements are the same, place by place.
 fn all_same<E: Element>(these: &[E], others: &[E]) -> bool
     requires { length these.now ≡ length others.now }
     ensures { T result ↔ (map E.Element.meaning these.now ≡ map E.Element.meaning others.now) }
 {
-    for place in 0..these.len() {
-        if !these[place].same(&others[place]) {
-            return false;
-        }
-    }
-    true
+    these.iter().zip(others).all(|(one, other)| one.same(other))
+}
+
+// Deals a key, and reads a harbour's card.
+fn read_dealt<'a, E: Element>(
+    plan: Plan,
+    issue: u32,
+    harbour: usize,
+    lent: Lent<'a, E>,
+) -> Result<&'a [E], Refusal>
+    ensures once { IfOk result (λ card. ReadsOnce E.Element.group E.Element.meaning plan issue harbour lent.entry card.now) }
+    ensures hides { HidesAsAsked E.Element.group E.Element.meaning }
+{
+    let Lent { key, random, tray } = lent;
+    let record = deal(plan, issue, key, random, tray)?;
+    record.read(tray, harbour)
 }
 
 // Deals two keys, each with its own random elements onto its own tray, reads the same harbour's card from both, and answers whether the two cards are the same.
@@ -28,18 +47,12 @@ pub fn reads_the_same<E: Element>(
     plan: Plan,
     issue: u32,
     harbour: usize,
-    first_key: &[E],
-    first_random: &[E],
-    first_tray: &mut [E],
-    second_key: &[E],
-    second_random: &[E],
-    second_tray: &mut [E],
+    first: Lent<E>,
+    second: Lent<E>,
 ) -> Result<bool, Refusal>
-    ensures { IfOk result (λ same. SameCard E.Element.group E.Element.meaning plan issue harbour first_key.now first_random.now second_key.now second_random.now (same ≡ true)) }
+    ensures { IfOk result (λ same. SameCard E.Element.group E.Element.meaning plan issue harbour first.entry second.entry (same ≡ true)) }
 {
-    let first = deal(plan, issue, first_key, first_random, first_tray)?;
-    let second = deal(plan, issue, second_key, second_random, second_tray)?;
-    let card = first.read(first_tray, harbour)?;
-    let other = second.read(second_tray, harbour)?;
+    let card = read_dealt(plan, issue, harbour, first)?;
+    let other = read_dealt(plan, issue, harbour, second)?;
     Ok(all_same(card, other))
 }

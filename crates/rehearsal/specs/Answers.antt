@@ -1,8 +1,6 @@
 -- What is seen of a call, by its answer. Assumes nothing.
-use Rattle.std.specs.Prelude.{ℕ, Ok, Err, Result}
+use Rattle.std.specs.Prelude.{ℕ, Option, None, Some, Ok, Err, Result}
 use Rattle.trays.specs.Refusals.{number_of}
-use Rattle.trays.specs.declared.answer.Audited.{Audited}
-use Rattle.trays.specs.declared.answer.Audited.TheVariants as audited
 use Rattle.trays.specs.declared.answer.Discarded.{Discarded}
 use Rattle.trays.specs.declared.answer.Discarded.TheVariants as discarded
 use Rattle.trays.specs.declared.refusal.Refusal.{Refusal}
@@ -13,9 +11,9 @@ abbrev pub from_discard : Discarded → Answer
 from_discard discarded.Wiped = Wiped
 from_discard discarded.Stale = Stale
 
-abbrev pub from_audit : Result Audited Refusal → Answer
-from_audit (Ok audited.Agrees) = Agrees
-from_audit (Ok (audited.Differs g)) = Differs g
+abbrev pub from_audit : Result (Option ℕ) Refusal → Answer
+from_audit (Ok None) = Agrees
+from_audit (Ok (Some g)) = Differs g
 from_audit (Err e) = Refused e
 
 -- The number of the refusal, and 0 where there is none.

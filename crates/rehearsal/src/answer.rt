@@ -3,7 +3,7 @@ ghost use Rattle.std.specs.Prelude.{◌≡◌};
 ghost use Rattle.rehearsal.specs.Answers.{from_audit, from_discard, refused_with};
 
 use std::fmt;
-use trays::answer::{Audited, Discarded};
+use trays::answer::Discarded;
 use trays::refusal::Refusal;
 
 // The answer of a call, or its refusal.
@@ -41,12 +41,12 @@ impl Answer {
     }
 
     // What an audit answers.
-    pub(crate) fn of_audit(answer: Result<Audited, Refusal>) -> Answer
+    pub(crate) fn of_audit(answer: Result<Option<usize>, Refusal>) -> Answer
         ensures { result ≡ from_audit answer }
     {
         match answer {
-            Ok(Audited::Agrees) => Answer::Agrees,
-            Ok(Audited::Differs(number)) => Answer::Differs(number),
+            Ok(None) => Answer::Agrees,
+            Ok(Some(number)) => Answer::Differs(number),
             Err(refusal) => Answer::Refused(refusal),
         }
     }

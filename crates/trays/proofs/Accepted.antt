@@ -1,24 +1,19 @@
 -- What a call that is not refused may rely on, and how its turn is told. Assumes nothing.
-use Rattle.std.proofs.Common.{◌≡◌, ℕ, ◌-◌, ◌*◌, ◌≤◌, cond, not, eqb, ltb, List, map, length, take, drop, sym, ap, ◌∙◌, ap₂, arith}
+use Rattle.std.proofs.Common.{◌≡◌, ℕ, zero, suc, ◌-◌, ◌*◌, ◌<◌, ◌≤◌, cond, not, ltb, List, map, length, take, drop, Option, None, Some, Ok, MatchOption, sym, refl, ap, ◌∙◌, subst, ap₂, inl, inr, arith}
 use Rattle.std.proofs.lemmas.Nat.{mul-le}
 use Rattle.std.proofs.lemmas.List.{drop-map, take-map}
-use Rattle.std.proofs.lemmas.Bool.{eq-eqb, ltb-false, or_parts, true≢false}
+use Rattle.std.proofs.lemmas.Bool.{eq-eqb, ltb-false, or_parts}
 use Rattle.plans.specs.Layout.{card}
 use Rattle.plans.specs.Shape.{card_length, masks_of, shape_of}
 use Rattle.plans.specs.declared.plan.Plan.{Plan}
-use Rattle.sharing.specs.Calls.{Call, Told, after, audit, draw, no_harbour, own, read, refusal, refuse, tray_length}
-use Rattle.sharing.specs.Dealing.{Scheme, card_in, card_start}
-use Rattle.sharing.specs.Steps.{Does, Kind, Seen, State, Step}
+use Rattle.sharing.specs.Calls.{Call, Told, after, audit, no_harbour, own, read, refusal, refuse, tray_length}
+use Rattle.sharing.specs.Dealing.{Scheme, card_in, card_start, restores}
+use Rattle.sharing.specs.Steps.{Audits, Does, Kind, Seen, State, Step, values}
 use Rattle.sharing.specs.Threshold.{scheme_of}
 use Rattle.sharing.proofs.Turning.{fits, passes}
 use Rattle.trays.specs.Laying.{block_of}
+use Rattle.trays.specs.Turns.{seen_audit}
 use Rattle.trays.proofs.Lengths.{card_long, cards_long, tray_long}
-
-pub not_last : (w random sheet : ℕ) (t : Told) → refusal w t (draw random sheet) ≡ 0 → t.round ≡ 65535 → ⊥
-not_last w random sheet t none last =
-    let first = passes t.drawn 11 _ (omega arith) none in
-    let second = passes (eqb t.round 65535) 12 _ (omega arith) first.1 in
-    true≢false (sym (eq-eqb t.round 65535 last) ∙ second.0)
 
 -- Plans with the same three numbers have the same groups.
 pub same_scheme : (p q : Plan) → shape_of p ≡ shape_of q → scheme_of p ≡ scheme_of q
@@ -64,3 +59,27 @@ module _ {E : Type 0} (K : Kind E) where
     λ _. does,
     λ some. absurd (some none),
   )
+
+-- What holds at 0 and from 1 on holds from 0 on.
+from_one : (P : ℕ → Type 0) (n : ℕ) → P 0 → ((k : ℕ) → 1 ≤ k → k < n → P k) → (k : ℕ) → k < n → P k
+from_one P n first each zero below = first
+from_one P n first each (suc k) below = each (suc k) (omega arith) below
+
+module _ {E : Type 0} (K : Kind E) (tray : List E) where
+  -- What a group of the tray restores.
+  abbrev pub restored_in : Scheme → ℕ → List K.group.Value
+  restored_in s g = restores K.group s (values K tray) g
+
+  -- The lowest group from 1 on that restores otherwise than group 0, or none.
+  abbrev pub LowestApart : Scheme → ℕ → Option ℕ → Type 0
+  LowestApart s n r =
+      MatchOption r ((k : ℕ) → 1 ≤ k → k < n → restored_in s k ≡ restored_in s 0)
+      (λ g. (1 ≤ g) × (g < n) × (restored_in s g ≡ restored_in s 0 → ⊥) × ((k : ℕ) → 1 ≤ k → k < g → restored_in s k ≡ restored_in s 0))
+
+  pub audited : (t : Told) (s : Scheme) (n : ℕ) (r : Option ℕ) → s ≡ t.scheme → n ≡ length t.scheme.masks → LowestApart s n r → Audits K t tray (seen_audit (Ok r))
+  audited t s n r same all found = told r (subst (λ x. LowestApart x n r) same found)
+    where
+      told : (o : Option ℕ) → LowestApart t.scheme n o → Audits K t tray (seen_audit (Ok o))
+      told None alike = inl (refl, λ g low. from_one (λ h. restored_in t.scheme h ≡ restored_in t.scheme 0) n refl alike g (omega (arith, all, low)))
+      told (Some g) apart =
+          inr (g, refl, omega (arith, all, apart.1), apart.2, λ h low. from_one (λ x. restored_in t.scheme x ≡ restored_in t.scheme 0) g refl apart.3 h low)

@@ -1,9 +1,9 @@
 -- A slip without the matrix: the key with every block of its group, or one block alone. Assumes nothing.
-use Rattle.std.proofs.Common.{◌≡◌, ℕ, zero, suc, ◌+◌, ◌-◌, ◌*◌, ◌/◌, ◌%◌, ◌<◌, ◌≤◌, Bool, true, false, cond, ◌&&◌, ◌||◌, eqb, List, [], ◌∷◌, ◌++◌, map, length, get_or, drop, sym, refl, ap, ◌∙◌, ap₂, mul_assoc, mul_comm, arith}
+use Rattle.std.proofs.Common.{◌≡◌, ℕ, zero, suc, ◌+◌, ◌-◌, ◌*◌, ◌/◌, ◌%◌, ◌<◌, ◌≤◌, Bool, true, false, cond, ◌&&◌, ◌||◌, eqb, List, ◌++◌, map, length, get_or, drop, sym, refl, ap, ◌∙◌, ap₂, mul_assoc, mul_comm, arith}
 use Rattle.std.specs.List.{range_with_len}
 use Rattle.std.proofs.lemmas.Nat.{div_below, mod_below, div-add-mod'}
-use Rattle.std.proofs.lemmas.List.FromFn.{get_or-map-range_with_len, length-map-range_with_len}
-use Rattle.std.proofs.lemmas.List.{get_or-drop, get_or-map, length-map, map-id}
+use Rattle.std.proofs.lemmas.List.FromFn.{fill_by_all, length-map-range_with_len}
+use Rattle.std.proofs.lemmas.List.{ext_get_or, get_or-drop, get_or-map, length-map, map-id}
 use Rattle.std.proofs.lemmas.Bool.{eq-eqb, ne_eqb}
 use Rattle.kinds.specs.Group.{Group}
 use Rattle.kinds.proofs.Groups.{left_unit}
@@ -19,13 +19,6 @@ use Rattle.sharing.proofs.Covering.{blocks, blocks_total, columns_blocks, sum_at
 use Rattle.sharing.proofs.Linear.{sum_at_append}
 use Rattle.sharing.proofs.Totals.{total_none, total_one}
 use Rattle.trays.proofs.Lengths.{random_long}
-
-pub same_list : {X : Type 0} (xs ys : List X) (d : X) → length xs ≡ length ys → ((i : ℕ) → i < length xs → get_or xs i d ≡ get_or ys i d) → xs ≡ ys
-same_list [] [] d same each = refl
-same_list [] (y ∷ ys) d same each = absurd (omega arith)
-same_list (x ∷ xs) [] d same each = absurd (omega arith)
-same_list (x ∷ xs) (y ∷ ys) d same each =
-    ap₂ ◌∷◌ (each 0 (omega arith)) (same_list xs ys d (omega arith) (λ i below. each (suc i) (omega arith)))
 
 module _ (G : Group) where
   -- The random value of a column.
@@ -44,7 +37,7 @@ module _ (G : Group) where
         let same : length (map f labels) ≡ length xs = length-map labels f ∙ sym long in
         let each : (i : ℕ) → i < length (map f labels) → get_or (map f labels) i G.nil ≡ get_or xs i G.nil =
         λ i below. at k u xs i (omega (arith, same, long, random_long p)) (omega (arith, length-map labels f)) in
-        ap (map f) (sym (columns_blocks (masks_of (shape_of p)) k)) ∙ same_list (map f labels) xs G.nil same each
+        ap (map f) (sym (columns_blocks (masks_of (shape_of p)) k)) ∙ ext_get_or G.nil (map f labels) xs same each
       where
         at : (k u : ℕ) (ys : List G.Value) (i : ℕ) → i < group_count (shape_of p) * p.components * (p.threshold - 1)
             → i < length (drop p.components (columns (masks_of (shape_of p)) p.components))
@@ -82,9 +75,7 @@ module _ (G : Group) where
             shifted l g v b c j e = omega arith
 
   as_counted : (xs : List G.Value) (k : ℕ) → length xs ≡ k → map (λ c. get_or xs c G.nil) (range_with_len 0 k) ≡ xs
-  as_counted xs k long =
-      same_list (map (λ c. get_or xs c G.nil) (range_with_len 0 k)) xs G.nil (length-map-range_with_len (λ c. get_or xs c G.nil) 0 k ∙ sym long)
-      (λ i below. get_or-map-range_with_len (λ c. get_or xs c G.nil) 0 k i i G.nil (omega (arith, length-map-range_with_len (λ c. get_or xs c G.nil) 0 k)) (omega arith))
+  as_counted xs k long = sym (fill_by_all (λ c. get_or xs c G.nil) xs k G.nil long (λ c low. refl))
 
   -- the key's columns
   key_half : (size g i c k : ℕ) (xs : List G.Value) → length xs ≡ k → c < k

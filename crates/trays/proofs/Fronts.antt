@@ -16,9 +16,6 @@ module _ (s : Scheme) where
   abbrev named : ℕ → ℕ → Bool
   named b g = has (mask_of s.masks g) b
 
-  pub front_none : (b : ℕ) → front s b 0 ≡ cards s b
-  front_none b = append-nil (cards s b)
-
   more : (b g : ℕ) (t : Bool) → named b g ≡ t → front s b (g + 1) ≡ front s b g ++ cond t (slots s.components b g) []
   more b g t is =
       let k : ℕ = s.components in

@@ -1,18 +1,19 @@
 -- Parts of one size, and blocks added one after the other. Assumes nothing.
-use Rattle.std.proofs.Common.{◌≡◌, ℕ, zero, suc, ◌+◌, ◌*◌, ◌<◌, ◌≤◌, true, false, eqb, List, [], ◌∷◌, ◌++◌, map, length, get_or, take, drop, sym, refl, ap, ◌∙◌, subst, ap₂, add-one, arith}
+use Rattle.std.proofs.Common.{◌≡◌, ℕ, zero, suc, ◌+◌, ◌-◌, ◌*◌, ◌/◌, ◌%◌, ◌<◌, ◌≤◌, min, List, [], ◌∷◌, ◌++◌, map, length, get_or, take, drop, Option, None, Some, Bor, sym, refl, ap, ◌∙◌, ap₂, ⊎_elim, add-one, arith}
 use Rattle.std.specs.List.{range_with_len}
-use Rattle.std.proofs.lemmas.Nat.{mul-le}
+use Rattle.std.proofs.Math.Nat.{mul-div_cancel}
+use Rattle.std.proofs.lemmas.Nat.{div-add-mod', mul-le}
 use Rattle.std.proofs.lemmas.List.FromFn.{map-range_with_len_more}
-use Rattle.std.proofs.lemmas.List.{drop-map, get_or-drop, get_or-take, length-drop, length-map, length-take-le, map-append, take-map}
+use Rattle.std.proofs.lemmas.List.{drop-drop, drop-map, drop_at, get_or-drop, get_or-take, length-drop, length-map, length-replicate, length-take-le, map-append, take-map, take_at}
 use Rattle.std.proofs.lemmas.Slice.{take-put_mid}
-use Rattle.std.proofs.lemmas.Bool.{ne_eqb, true≢false}
+use Rattle.std.proofs.lemmas.Bool.{cases_lt}
 use borrow.Rule.Slice.PartMut.{put_mid}
 use Rattle.kinds.specs.Group.{Group}
-use Rattle.sharing.specs.Dealing.{added, total, zeros}
+use Rattle.sharing.specs.Dealing.{added, total}
 use Rattle.sharing.proofs.Linear.{length_added}
 use Rattle.sharing.proofs.Totals.{total_append}
 use Rattle.trays.specs.Laying.{OfSize, block_of, key_of, with_blocks}
-use Rattle.trays.proofs.Places.{get_or_added, length_zeros}
+use Rattle.trays.proofs.Places.{get_or_added}
 
 -- So many parts fit, if there are no fewer.
 pub parts_fit : (x n k l : ℕ) → x ≤ n → l ≡ n * k → x * k ≤ l
@@ -29,6 +30,13 @@ map_part m k b xs = sym (take-map m k (drop (b * k) xs)) ∙ ap (take k) (sym (d
 
 pub get_or_part : {X : Type 0} (k b c : ℕ) (xs : List X) (d : X) → c < k → get_or (block_of k b xs) c d ≡ get_or xs (b * k + c) d
 get_or_part k b c xs d below = get_or-take k (drop (b * k) xs) c d below ∙ get_or-drop (b * k) xs c d
+
+-- Where something is left of whole parts, one more fits.
+room : (k n l left : ℕ) → 1 ≤ k → l % k ≡ 0 → left ≡ l - n * k → 0 < left → (n + 1) * k ≤ l
+room k n l left some whole is more = ⊎_elim
+    (λ fewer. omega (arith, starts n k, mul-le (n + 1) k (l / k) k (omega arith) (omega arith), div-add-mod' l k))
+    (λ all. absurd (omega (arith, mul-le (l / k) k n k all (omega arith), div-add-mod' l k)))
+    (cases_lt n (l / k))
 
 module _ (G : Group) where
   pub length_with_blocks : (k n : ℕ) (xs ys : List G.Value) → length xs ≡ k → n * k ≤ length ys → length (with_blocks G k n xs ys) ≡ k
@@ -55,18 +63,10 @@ module _ (G : Group) where
       ∙ ap (G.plus (get_or xs c G.nil)) (sym all)
 
   module _ {E : Type 0} (m : E → G.Value) where
-    -- A key that is lent, or the all-zero key.
-    pub length_key : (k : ℕ) (xs : List E) → OfSize xs k → length (key_of G m k xs) ≡ k
-    length_key k [] size = length_zeros G k
-    length_key k (x ∷ xs) size = length-map (x ∷ xs) m ∙ size
-
-    pub key_none : (k : ℕ) (xs : List E) → eqb (length xs) 0 ≡ true → zeros G k ≡ key_of G m k xs
-    key_none k [] none = refl
-    key_none k (x ∷ xs) none = absurd (true≢false (sym none ∙ ne_eqb (length (x ∷ xs)) 0 (λ e. omega arith)))
-
-    pub key_lent : (k : ℕ) (xs : List E) → eqb (length xs) 0 ≡ false → map m xs ≡ key_of G m k xs
-    key_lent k [] some = absurd (true≢false some)
-    key_lent k (x ∷ xs) some = refl
+    -- A key that is lent, or the all-zero key, is of its size.
+    pub length_key : (k : ℕ) (key : Option (Bor (List E))) → OfSize key k → length (key_of G m k key) ≡ k
+    length_key k None size = length-replicate k G.nil
+    length_key k (Some key) size = length-map key.now m ∙ size key refl
 
     -- One block more is added.
     pub blocks_more : (k b : ℕ) (key : List G.Value) (blocks to to' one : List E) → map m to ≡ with_blocks G k b key (map m blocks) → one ≡ block_of k b blocks
@@ -79,12 +79,43 @@ module _ (G : Group) where
     as_long to to' one sum same =
         sym (length-map to' m) ∙ ap length sum ∙ length_added G (map m to) (map m one) (length-map to m ∙ same ∙ sym (length-map one m)) ∙ length-map to m
 
-pub of_size : {E : Type 0} (k : ℕ) (xs : List E) → OfSize xs k → eqb (length xs) 0 ≡ false → length xs ≡ k
-of_size k [] size some = absurd (true≢false some)
-of_size k (x ∷ xs) size some = size
+    -- What a loop over the blocks has done: it added the first so many, and the others are left.
+    pub record Chunked (k : ℕ) (key : List G.Value) (blocks to : List E) (n size : ℕ) (rest : List E) : Type 0 where
+      pub value : map m to ≡ with_blocks G k n key (map m blocks)
+      pub long : length to ≡ k
+      pub sized : size ≡ k
+      pub left : rest ≡ drop (n * k) blocks
+      pub within : n * k ≤ length blocks
 
-pub sized : {E : Type 0} (k j : ℕ) (xs : List E) → k ≡ j → OfSize xs j → OfSize xs k
-sized k j xs same size = subst (OfSize xs) (sym same) size
+    -- The next block is whole.
+    pub chunk_long : (k : ℕ) (key : List G.Value) (blocks to one : List E) (n size : ℕ) (rest : List E) → 1 ≤ k → length blocks % k ≡ 0 → Chunked k key blocks to n size rest
+        → length one ≡ min size (length rest) → 0 < length rest → length one ≡ k
+    chunk_long k key blocks to one n size rest some whole so_far long more =
+        let fits : (n + 1) * k ≤ length blocks = room k n (length blocks) (length rest) some whole (ap length so_far.left ∙ length-drop (n * k) blocks) more in
+        omega (arith, long, so_far.sized, fits, starts n k, ap length so_far.left, length-drop (n * k) blocks)
+
+    -- The next block is added.
+    pub chunk_step : (k : ℕ) (key : List G.Value) (blocks to to' one : List E) (n size size' : ℕ) (rest rest' : List E) → 1 ≤ k → length blocks % k ≡ 0 → Chunked k key blocks to n size rest
+        → size' ≡ size → rest ≡ one ++ rest' → length one ≡ min size (length rest) → 0 < length rest → map m to' ≡ added G (map m to) (map m one) → Chunked k key blocks to' (n + 1) size' rest'
+    chunk_step k key blocks to to' one n size size' rest rest' some whole so_far same parts long more sum =
+        let fits : (n + 1) * k ≤ length blocks = room k n (length blocks) (length rest) some whole (ap length so_far.left ∙ length-drop (n * k) blocks) more in
+        let one_long : length one ≡ k = chunk_long k key blocks to one n size rest some whole so_far long more in
+        let start : take (length one) rest ≡ one = ap (take (length one)) parts ∙ take_at one rest' (length one) refl in
+        let is : one ≡ block_of k n blocks = sym start ∙ ap₂ take one_long so_far.left in
+        record {
+          value = blocks_more k n key blocks to to' one so_far.value is sum;
+          long = as_long to to' one sum (so_far.long ∙ sym one_long) ∙ so_far.long;
+          sized = same ∙ so_far.sized;
+          left = sym (drop_at one rest' (length one) refl) ∙ ap (drop (length one)) (sym parts) ∙ ap₂ drop one_long so_far.left ∙ drop-drop k (n * k) blocks ∙ ap (λ j. drop j blocks) (sym (starts n k));
+          within = fits;
+        }
+
+    -- Where no block is left, all are added.
+    pub chunk_end : (k : ℕ) (key : List G.Value) (blocks to : List E) (n size : ℕ) (rest : List E) → 1 ≤ k → Chunked k key blocks to n size rest → length rest ≡ 0
+        → map m to ≡ with_blocks G k (length blocks / k) key (map m blocks)
+    chunk_end k key blocks to n size rest some so_far none =
+        let all : length blocks ≡ n * k = omega (arith, none, ap length so_far.left, length-drop (n * k) blocks, so_far.within) in
+        so_far.value ∙ ap (λ j. with_blocks G k j key (map m blocks)) (sym (ap (λ l. l / k) all ∙ mul-div_cancel n some))
 
 -- What a write to a part of a list leaves in front.
 pub front_written : {X Y : Type 0} (m : X → Y) (a k j : ℕ) (xs ys : List X) (vs : List Y) → a + k ≤ length xs → map m ys ≡ vs → length ys ≡ k

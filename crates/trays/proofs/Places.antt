@@ -1,6 +1,6 @@
 -- Loops over places: the first so many hold what is wanted, and the others what was there. Assumes nothing.
 use Rattle.std.proofs.Common.{◌≡◌, ℕ, zero, suc, ◌+◌, ◌<◌, List, [], ◌∷◌, map, length, get_or, set, sym, refl, ap, ◌∙◌, ap₂, add-one, arith}
-use Rattle.std.proofs.lemmas.List.{get_or-map, length-map, map-set}
+use Rattle.std.proofs.lemmas.List.{get_or-map, get_or-replicate, length-map, length-replicate, map-set}
 use Rattle.kinds.specs.Group.{Group}
 use Rattle.kinds.proofs.Groups.{left_unit}
 use Rattle.sharing.specs.Dealing.{added, zeros}
@@ -60,15 +60,6 @@ module _ (G : Group) where
   get_or_added (x ∷ xs) (y ∷ ys) zero z below same = refl
   get_or_added (x ∷ xs) (y ∷ ys) (suc i) z below same = get_or_added xs ys i z (omega arith) (omega arith)
 
-  pub get_or_zeros : (n i : ℕ) → get_or (zeros G n) i G.nil ≡ G.nil
-  get_or_zeros zero i = refl
-  get_or_zeros (suc n) zero = refl
-  get_or_zeros (suc n) (suc i) = get_or_zeros n i
-
-  pub length_zeros : (n : ℕ) → length (zeros G n) ≡ n
-  length_zeros zero = refl
-  length_zeros (suc n) = ap suc (length_zeros n)
-
   module _ {E : Type 0} (m : E → G.Value) where
     -- What a loop has done that copies, adds, takes away or wipes.
     abbrev pub Copied : List E → List E → ℕ → List E → Type 0
@@ -89,12 +80,11 @@ module _ (G : Group) where
         let just : m x ≡ get_or (map m from) i G.nil = value ∙ ap₂ G.plus none read ∙ left_unit G (get_or (map m from) i G.nil) in
         writes m xs (map m from) (map m to) i x G.nil done (omega (arith, long)) (omega (arith, long, longer)) just
 
-    pub adds : (to xs : List E) (from : List G.Value) (i : ℕ) (x d : E) → Added to from i xs → length to ≡ length from → i < length to
+    adds : (to xs : List E) (from : List G.Value) (i : ℕ) (x d : E) → Added to from i xs → length to ≡ length from → i < length to
         → m x ≡ G.plus (m (get_or xs i d)) (get_or from i G.nil) → Added to from (i + 1) (set xs i x)
     adds to xs from i x d done same below value =
         let long : length (map m to) ≡ length to = length-map to m in
         let sums : length (added G (map m to) from) ≡ length (map m to) = length_added G (map m to) from (omega (arith, long)) in
-        let there : length (over i (added G (map m to) from) (map m to)) ≡ length xs = sym (ap length done) ∙ length-map xs m in
         let old : get_or (over i (added G (map m to) from) (map m to)) i G.nil ≡ get_or (map m to) i G.nil = over_at (added G (map m to) from) (map m to) i G.nil (omega (arith, long)) (omega (arith, sums)) in
         let read : m (get_or xs i d) ≡ get_or (over i (added G (map m to) from) (map m to)) i G.nil = reads_over xs (added G (map m to) from) (map m to) i d done (omega (arith, long)) (omega (arith, sums)) in
         let sum : get_or (added G (map m to) from) i G.nil ≡ G.plus (get_or (map m to) i G.nil) (get_or from i G.nil) = get_or_added (map m to) from i G.nil (omega (arith, long)) (omega (arith, long)) in
@@ -115,8 +105,8 @@ module _ (G : Group) where
     pub wipes : (to xs : List E) (i : ℕ) (x : E) → Wiped to i xs → i < length to → m x ≡ G.nil → Wiped to (i + 1) (set xs i x)
     wipes to xs i x done below value =
         let long : length (map m to) ≡ length to = length-map to m in
-        let many : length (zeros G (length to)) ≡ length to = length_zeros (length to) in
-        writes m xs (zeros G (length to)) (map m to) i x G.nil done (omega (arith, long)) (omega (arith, long, many)) (value ∙ sym (get_or_zeros (length to) i))
+        let many : length (zeros G (length to)) ≡ length to = length-replicate (length to) G.nil in
+        writes m xs (zeros G (length to)) (map m to) i x G.nil done (omega (arith, long)) (omega (arith, long, many)) (value ∙ sym (get_or-replicate (length to) i G.nil G.nil below))
 
     pub copied : (to from xs : List E) (i : ℕ) → Copied to from i xs → length to ≡ length from → i ≡ length to → map m xs ≡ map m from
     copied to from xs i done same all =
@@ -129,7 +119,7 @@ module _ (G : Group) where
 
     pub wiped : (to xs : List E) (i : ℕ) → Wiped to i xs → i ≡ length to → map m xs ≡ zeros G (length to)
     wiped to xs i done all =
-        done ∙ over_all (zeros G (length to)) (map m to) i (omega (arith, length-map to m)) (omega (arith, length-map to m, length_zeros (length to)))
+        done ∙ over_all (zeros G (length to)) (map m to) i (omega (arith, length-map to m)) (omega (arith, length-map to m, length-replicate (length to) G.nil))
 
     -- What adding an element does at one place.
     pub adds_element : (to from xs : List E) (i : ℕ) (x d e : E) → Added to (map m from) i xs → length to ≡ length from → i < length to

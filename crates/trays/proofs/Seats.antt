@@ -1,9 +1,10 @@
 -- What find tells of a group on a member's card: where its slips lie, and which they are. Assumes nothing.
-use Rattle.std.proofs.Common.{◌≡◌, ℕ, ◌+◌, ◌-◌, ◌*◌, ◌/◌, ◌%◌, ◌^◌, ◌<◌, ◌≤◌, Bool, true, false, cond, ◌&&◌, eqb, List, [], ◌∷◌, ◌++◌, map, length, get_or, ℤ, pos, negsuc, sym, refl, ap, ◌∙◌, subst, ap₂, ⊎_elim, mul_assoc, mul_comm, div-add-mod', arith, w8, of_z}
+use Rattle.std.proofs.Common.{◌≡◌, ℕ, ◌+◌, ◌-◌, ◌*◌, ◌/◌, ◌%◌, ◌^◌, ◌<◌, ◌≤◌, Bool, true, false, cond, ◌&&◌, eqb, List, [], ◌∷◌, ◌++◌, map, length, get_or, ℤ, pos, negsuc, sym, refl, ap, ◌∙◌, ap₂, ⊎_elim, mul_assoc, mul_comm, div-add-mod', arith, w8, of_z}
 use lib.Count.{ones, ones_cat}
 use Rattle.std.specs.List.{range_with_len}
+use Rattle.std.proofs.Math.Nat.{mul-mod_right}
 use Rattle.std.proofs.lemmas.Nat.{mod_below, mul-le, pow_pos}
-use Rattle.std.proofs.lemmas.List.FromFn.{get_or-map-range_with_len, length-map-range_with_len}
+use Rattle.std.proofs.lemmas.List.FromFn.{fill_by_all}
 use Rattle.std.proofs.lemmas.List.{length_push}
 use Rattle.std.proofs.lemmas.Bool.{cases_Bool, cases_eq, eq-eqb, eqb-true, lt-ltb, true≢false}
 use Rattle.kinds.specs.Group.{Group}
@@ -27,7 +28,7 @@ use Rattle.sharing.specs.Dealing.{total}
 use Rattle.sharing.specs.Threshold.{scheme_of}
 use Rattle.sharing.proofs.Alike.{all_counting, map_all, map_map}
 use Rattle.trays.specs.Laying.{block_of, front, slip_at, with_blocks}
-use Rattle.trays.proofs.Direct.{first_slip, later_slip, same_list}
+use Rattle.trays.proofs.Direct.{first_slip, later_slip}
 use Rattle.trays.proofs.Fronts.{front_long}
 use Rattle.trays.proofs.Lengths.{random_long}
 use Rattle.trays.proofs.Parts.{get_or_part, get_or_with_blocks, length_with_blocks, part_long, parts_fit}
@@ -118,36 +119,29 @@ module _ (p : Plan) where
   unseated ms g h n is low some refused found =
       no_member g h n (omega (arith, ap length is, many p)) some refused (found ∙ ap (λ m. find_refusal p.harbours p.threshold (get_or m g 0) h) is)
 
-  -- The same, by the bit of the harbour.
-  pub seated_at : (ms : List ℕ) (g b at : ℕ) (z : ℤ) → ms ≡ masks_of (shape_of p) → g < length ms → b < p.harbours
-      → (find_refusal p.harbours p.threshold (get_or ms g 0) (b + 1) ≡ 0) × (at ≡ place (masks_of (shape_of p)) p.components (number_in (shape_of p) (get_or ms g 0)) (b + 1 - 1)) × (z ≡ sign (position (get_or ms g 0) (b + 1 - 1)))
-      → Seat g b at z
-  seated_at ms g b at z is low below found =
-      let same : b + 1 - 1 ≡ b = omega arith in
-      subst (λ x. Seat g x at z) same (seated ms g (b + 1) at z is low (omega arith) (omega arith) found)
-
-  pub unseated_at : (ms : List ℕ) (g b n : ℕ) → ms ≡ masks_of (shape_of p) → g < length ms → 1 ≤ n → n ≡ find_refusal p.harbours p.threshold (get_or ms g 0) (b + 1)
-      → has (mask_of (masks_of (shape_of p)) g) b ≡ false
-  unseated_at ms g b n is low refused found =
-      let same : b + 1 - 1 ≡ b = omega arith in
-      subst (λ x. has (mask_of (masks_of (shape_of p)) g) x ≡ false) same (unseated ms g (b + 1) n is low (omega arith) refused found)
-
   -- The random elements of so many groups are there, if there are no fewer groups.
   pub own_room : (x k u l : ℕ) → x ≤ group_count (shape_of p) → k ≡ p.components → u ≡ p.threshold → l ≡ random_count (scheme_of p) → x * (k * (u - 1)) ≤ l
   own_room x k u l few ks us ls =
       parts_fit x (group_count (shape_of p)) (k * (u - 1)) l few
       (ls ∙ random_long p ∙ mul_assoc (group_count (shape_of p)) p.components (p.threshold - 1) ∙ ap₂ (λ x y. group_count (shape_of p) * (x * (y - 1))) (sym ks) (sym us))
 
+  -- A group has as many random elements as its blocks.
+  pub own_long : {X : Type 0} (g k u : ℕ) (random : List X) → g < group_count (shape_of p) → k ≡ p.components → u ≡ p.threshold → length random ≡ random_count (scheme_of p)
+      → length (block_of (k * (u - 1)) g random) ≡ k * (u - 1)
+  own_long g k u random low ks us ls = part_long (k * (u - 1)) g random (own_room (g + 1) k u (length random) (omega arith) ks us ls)
+
+  pub own_whole : {X : Type 0} (g k u : ℕ) (random own : List X) → g < group_count (shape_of p) → k ≡ p.components → u ≡ p.threshold → length random ≡ random_count (scheme_of p)
+      → own ≡ block_of (k * (u - 1)) g random → length own % k ≡ 0
+  own_whole g k u random own low ks us ls is =
+      let long : length own ≡ k * (u - 1) = ap length is ∙ own_long g k u random low ks us ls in
+      ap (λ n. n % k) long ∙ mul-mod_right k (u - 1)
+
   module _ (G : Group) (key random : List G.Value) (long : length key ≡ p.components) (longer : length random ≡ random_count (scheme_of p)) where
     abbrev own : ℕ → List G.Value
     own g = block_of (p.components * (p.threshold - 1)) g random
 
-    own_fits : (g : ℕ) → g < group_count (shape_of p) → (g + 1) * (p.components * (p.threshold - 1)) ≤ length random
-    own_fits g low =
-        own_room (g + 1) p.components p.threshold (length random) (omega arith) refl refl longer
-
-    own_long : (g : ℕ) → g < group_count (shape_of p) → length (own g) ≡ (p.threshold - 1) * p.components
-    own_long g low = part_long (p.components * (p.threshold - 1)) g random (own_fits g low) ∙ mul_comm p.components (p.threshold - 1)
+    blocks_long : (g : ℕ) → g < group_count (shape_of p) → length (own g) ≡ (p.threshold - 1) * p.components
+    blocks_long g low = own_long g p.components p.threshold random low refl refl longer ∙ mul_comm p.components (p.threshold - 1)
 
     -- a component of a block, in the group's own elements and in all
     of_own : (g b c : ℕ) → b < p.threshold - 1 → c < p.components
@@ -161,8 +155,10 @@ module _ (p : Plan) where
         index : (k u : ℕ) → g * (k * u) + (b * k + c) ≡ g * k * u + b * k + c
         index k u = omega (arith, mul_assoc g k u)
 
-    labelled : (g b : ℕ) → map (slip_at G (scheme_of p) key random) (slots p.components b g)
-        ≡ map (λ c. slip G (masks_of (shape_of p)) p.components (key ++ random) (record { group = g; position = position (mask_at g) b; component = c })) (range_with_len 0 p.components)
+    abbrev slip_in : ℕ → ℕ → ℕ → G.Value
+    slip_in g i c = slip G (masks_of (shape_of p)) p.components (key ++ random) (record { group = g; position = i; component = c })
+
+    labelled : (g b : ℕ) → map (slip_at G (scheme_of p) key random) (slots p.components b g) ≡ map (slip_in g (position (mask_at g) b)) (range_with_len 0 p.components)
     labelled g b = map_map (slip_at G (scheme_of p) key random) (λ c. record { group = g; bit = b; component = c }) (range_with_len 0 p.components)
 
     -- The slips of a group's first member.
@@ -171,27 +167,21 @@ module _ (p : Plan) where
     first_slips g b low first =
         let k : ℕ = p.components in
         let u : ℕ = p.threshold - 1 in
-        let f : ℕ → G.Value = λ c. slip G (masks_of (shape_of p)) k (key ++ random) (record { group = g; position = position (mask_at g) b; component = c }) in
-        let room : u * k ≤ length (own g) = omega (arith, own_long g low) in
-        labelled g b
-        ∙ same_list (map f (range_with_len 0 k)) (with_blocks G k u key (own g)) G.nil (length-map-range_with_len f 0 k ∙ sym (length_with_blocks G k u key (own g) long room))
-        (λ c below. at c (omega (arith, length-map-range_with_len f 0 k)) room)
+        let room : u * k ≤ length (own g) = omega (arith, blocks_long g low) in
+        labelled g b ∙ sym (fill_by_all (slip_in g (position (mask_at g) b)) (with_blocks G k u key (own g)) k G.nil (length_with_blocks G k u key (own g) long room) (λ c below. at c below room))
       where
         at : (c : ℕ) → c < p.components → (p.threshold - 1) * p.components ≤ length (own g)
-            → get_or (map (λ j. slip G (masks_of (shape_of p)) p.components (key ++ random) (record { group = g; position = position (mask_at g) b; component = j })) (range_with_len 0 p.components)) c G.nil
-            ≡ get_or (with_blocks G p.components (p.threshold - 1) key (own g)) c G.nil
+            → get_or (with_blocks G p.components (p.threshold - 1) key (own g)) c G.nil ≡ slip_in g (position (mask_at g) b) c
         at c below room =
             let k : ℕ = p.components in
             let u : ℕ = p.threshold - 1 in
-            let f : ℕ → G.Value = λ j. slip G (masks_of (shape_of p)) k (key ++ random) (record { group = g; position = position (mask_at g) b; component = j }) in
             let alike : map (λ j. get_or (own g) (j * k + c) G.nil) (range_with_len 0 u) ≡ map (λ j. get_or random (g * k * u + j * k + c) G.nil) (range_with_len 0 u) =
             map_all (λ j. get_or (own g) (j * k + c) G.nil) (λ j. get_or random (g * k * u + j * k + c) G.nil) (range_with_len 0 u)
             (all_counting (λ j. get_or (own g) (j * k + c) G.nil ≡ get_or random (g * k * u + j * k + c) G.nil) 0 u (λ j l lt. of_own g j c (omega arith) below)) in
-            get_or-map-range_with_len f 0 k c c G.nil below (omega arith)
-            ∙ ap (λ i. slip G (masks_of (shape_of p)) k (key ++ random) (record { group = g; position = i; component = c })) first
-            ∙ first_slip G p key random g c long longer low below
-            ∙ ap (λ vs. G.plus (get_or key c G.nil) (total G vs)) (sym alike)
-            ∙ sym (get_or_with_blocks G k u c key (own g) long room below)
+            get_or_with_blocks G k u c key (own g) long room below
+            ∙ ap (λ vs. G.plus (get_or key c G.nil) (total G vs)) alike
+            ∙ sym (first_slip G p key random g c long longer low below)
+            ∙ ap (λ i. slip_in g i c) (sym first)
 
     -- The slips of any other member.
     pub later_slips : (g b x : ℕ) → g < group_count (shape_of p) → 2 ≤ position (mask_at g) b → position (mask_at g) b + x ≡ p.threshold
@@ -199,15 +189,12 @@ module _ (p : Plan) where
     later_slips g b x low some sum =
         let k : ℕ = p.components in
         let u : ℕ = p.threshold - 1 in
-        let f : ℕ → G.Value = λ c. slip G (masks_of (shape_of p)) k (key ++ random) (record { group = g; position = position (mask_at g) b; component = c }) in
-        let block_fits : (x + 1) * k ≤ length (own g) = parts_fit (x + 1) u k (length (own g)) (omega arith) (own_long g low) in
+        let block_fits : (x + 1) * k ≤ length (own g) = parts_fit (x + 1) u k (length (own g)) (omega arith) (blocks_long g low) in
         let is : p.threshold - position (mask_at g) b ≡ x = omega arith in
         labelled g b
-        ∙ same_list (map f (range_with_len 0 k)) (block_of k x (own g)) G.nil (length-map-range_with_len f 0 k ∙ sym (part_long k x (own g) block_fits))
-        (λ c below. let lc : c < k = omega (arith, length-map-range_with_len f 0 k) in
-        get_or-map-range_with_len f 0 k c c G.nil lc (omega arith)
-        ∙ later_slip G p key random g (position (mask_at g) b) c long longer low lc some (omega arith)
-        ∙ ap (λ j. get_or random (g * k * u + j * k + c) G.nil) is ∙ sym (of_own g x c (omega arith) lc) ∙ sym (get_or_part k x c (own g) G.nil lc))
+        ∙ sym (fill_by_all (slip_in g (position (mask_at g) b)) (block_of k x (own g)) k G.nil (part_long k x (own g) block_fits)
+        (λ c below. get_or_part k x c (own g) G.nil below ∙ of_own g x c (omega arith) below ∙ ap (λ j. get_or random (g * k * u + j * k + c) G.nil) (sym is)
+        ∙ sym (later_slip G p key random g (position (mask_at g) b) c long longer low below some (omega arith))))
 
     -- Both, as they are told by the sign.
     pub slips_there : (g b at : ℕ) (z : ℤ) → Seat g b at z

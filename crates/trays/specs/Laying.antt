@@ -1,6 +1,8 @@
 -- How a tray is laid, slip by slip in its own order, and how a group's slips are summed. Assumes nothing.
-use Rattle.std.specs.Prelude.{◌≡◌, ℕ, zero, suc, ◌+◌, ◌*◌, List, [], ◌∷◌, ◌++◌, map, length, take, drop, filter, slice_index_or}
+use Rattle.std.specs.Prelude.{◌≡◌, Option, None, Some, ℕ, zero, suc, ◌+◌, ◌*◌, List, ◌++◌, map, length, take, drop, filter, slice_index_or}
+use Rattle.std.specs.Borrow.{Bor}
 use Rattle.std.specs.List.{range_with_len, flat_map}
+use Rattle.std.specs.Option.{ForSome}
 use Rattle.kinds.specs.Group.{Group}
 use Rattle.plans.specs.Groups.{has, members, position, sign}
 use Rattle.plans.specs.Layout.{Slot, mask_of, place, slots, tray}
@@ -12,14 +14,13 @@ abbrev pub slip_at : (G : Group) → Scheme → List G.Value → List G.Value �
 slip_at G s key random x = slip G s.masks s.components (key ++ random) (row_of s.masks x)
 
 -- The values of a key of so many components; where there is none, of the all-zero key.
-abbrev pub key_of : {E : Type 0} → (G : Group) → (E → G.Value) → ℕ → List E → List G.Value
-key_of G meaning k [] = zeros G k
-key_of G meaning k (x ∷ xs) = map meaning (x ∷ xs)
+abbrev pub key_of : {E : Type 0} → (G : Group) → (E → G.Value) → ℕ → Option (Bor (List E)) → List G.Value
+key_of G meaning k None = zeros G k
+key_of G meaning k (Some key) = map meaning key.now
 
 -- A key has so many components, if there is one.
-abbrev pub OfSize : {E : Type 0} → List E → ℕ → Type 0
-OfSize [] k = Unit {0}
-OfSize (x ∷ xs) k = length (x ∷ xs) ≡ k
+abbrev pub OfSize : {E : Type 0} → Option (Bor (List E)) → ℕ → Type 0
+OfSize key k = ForSome key (λ x. length x.now ≡ k)
 
 -- The labels of the first so many cards.
 abbrev pub cards : Scheme → ℕ → List Slot

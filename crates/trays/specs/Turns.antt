@@ -1,5 +1,5 @@
 -- What each call promises: it is one turn of a run, on whatever record, with whatever lengths, and for every coding of its elements. Assumes nothing.
-use Rattle.std.specs.Prelude.{◌≡◌, ℕ, ◌-◌, List, [], map, length, IfOk, IfErr, Ok, Err, Result, MatchResult}
+use Rattle.std.specs.Prelude.{◌≡◌, ℕ, ◌-◌, List, [], map, length, IfOk, IfErr, Ok, Err, Result, MatchResult, Option, None, Some}
 use Rattle.std.specs.Borrow.{Bor}
 use Rattle.kinds.specs.Group.{Group}
 use Rattle.sharing.specs.Calls.{Call, Told, apply, audit, deal_refusal, discard, draw, own, read}
@@ -13,8 +13,6 @@ use Rattle.trays.specs.declared.note.Note.{Note}
 use Rattle.trays.specs.declared.note.Returned.{Returned}
 use Rattle.trays.specs.declared.record.Record.{Record}
 use Rattle.trays.specs.declared.refusal.Refusal.{Refusal}
-use Rattle.trays.specs.declared.answer.Audited.{Audited}
-use Rattle.trays.specs.declared.answer.Audited.TheVariants.{Agrees, Differs}
 use Rattle.trays.specs.declared.answer.Discarded.{Discarded}
 use Rattle.trays.specs.declared.answer.Discarded.TheVariants.{Stale, Wiped}
 
@@ -47,9 +45,9 @@ abbrev pub seen_read : {E V : Type 0} → (E → V) → Result (Bor (List E)) Re
 seen_read meaning (Ok part) = handed (map meaning part.now)
 seen_read meaning (Err e) = refused (number_of e)
 
-abbrev pub seen_audit : {V : Type 0} → Result Audited Refusal → Seen V
-seen_audit (Ok Agrees) = agrees
-seen_audit (Ok (Differs g)) = differs g
+abbrev pub seen_audit : {V : Type 0} → Result (Option ℕ) Refusal → Seen V
+seen_audit (Ok None) = agrees
+seen_audit (Ok (Some g)) = differs g
 seen_audit (Err e) = refused (number_of e)
 
 -- Deal: the tray is that of the matrix and the record a fresh one, or, refused, the tray is as it was.
@@ -88,6 +86,6 @@ abbrev pub HandsOut : {E : Type 0} → Told → ℕ → List E → Result (Bor (
 HandsOut t harbour tray r = IfOk r (λ part. part.now ≡ card_in t.scheme (harbour - 1) tray)
 
 -- Audit, whatever sheet lies beside the tray.
-abbrev pub AuditTurns : {E : Type 0} → (G : Group) → (E → G.Value) → Told → List E → Result Audited Refusal → Type 0
+abbrev pub AuditTurns : {E : Type 0} → (G : Group) → (E → G.Value) → Told → List E → Result (Option ℕ) Refusal → Type 0
 AuditTurns {E} G meaning t tray r =
     (sheet : List E) → Turns G meaning (holding t tray sheet) (audit (length tray)) [] (seen_audit r) (holding t tray sheet)

@@ -6,12 +6,3 @@ pub enum Discarded {
     // It was not open: nothing was altered.
     Stale,
 }
-
-// What an audit finds.
-#[derive(Clone, Copy, PartialEq, Eq, Debug)]
-pub enum Audited {
-    // Every group restores the same.
-    Agrees,
-    // This is the lowest group that restores otherwise than group 0.
-    Differs(usize),
-}

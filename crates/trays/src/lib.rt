@@ -6,5 +6,5 @@ mod dealing;
 pub mod note;
 pub mod record;
 pub mod refusal;
-mod restoring;
 mod slips;
+mod tray;

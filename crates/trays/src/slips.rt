@@ -19,8 +19,9 @@ pub(crate) fn copy<E: Element>(to: &mut [E], from: &[E])
     ensures { map E.Element.meaning to.new ≡ map E.Element.meaning from.now }
 {
     let zero = E::zero();
-    for place in 0..to.len() {
-        to[place] = zero.sum(&from[place]);
+    // Kept: after a zip of iter_mut a proof knows nothing of what was written, so the others are read at the place.
+    for (place, own) in to.iter_mut().enumerate() {
+        *own = zero.sum(&from[place]);
     }
 }
 
@@ -29,8 +30,9 @@ pub(crate) fn add<E: Element>(to: &mut [E], from: &[E])
     requires { length to.old ≡ length from.now }
     ensures { map E.Element.meaning to.new ≡ added E.Element.group (map E.Element.meaning to.old) (map E.Element.meaning from.now) }
 {
-    for place in 0..to.len() {
-        to[place] = to[place].sum(&from[place]);
+    // Kept: after a zip of iter_mut a proof knows nothing of what was written, so the others are read at the place.
+    for (place, own) in to.iter_mut().enumerate() {
+        *own = own.sum(&from[place]);
     }
 }
 
@@ -38,7 +40,7 @@ pub(crate) fn add<E: Element>(to: &mut [E], from: &[E])
 pub(crate) fn wipe<E: Element>(places: &mut [E])
     ensures { map E.Element.meaning places.new ≡ zeros E.Element.group (length places.old) }
 {
-    for place in 0..places.len() {
-        places[place] = E::zero();
+    for place in places {
+        *place = E::zero();
     }
 }

@@ -1,6 +1,5 @@
-ghost use Rattle.std.specs.Prelude.{◌≡◌, MatchResult};
 ghost use Rattle.sharing.specs.Calls.{apply, refusal};
-ghost use Rattle.trays.specs.Refusals.{number_of};
+ghost use Rattle.trays.specs.Refusals.{Passes};
 ghost use Rattle.trays.specs.Turns.{ApplyTurns, GivesBack, told_by};
 
 use crate::note::{Note, Returned};
@@ -12,7 +11,7 @@ use kinds::element::Element;
 impl Record {
     // Refuses an apply by the note's round and the lengths of tray and sheet.
     fn judge_apply(&self, round: u16, tray: usize, sheet: usize) -> Result<(), Refusal>
-        ensures { MatchResult result (λ _. refusal 0 (told_by self.now) (apply round tray sheet) ≡ 0) (λ e. number_of e ≡ refusal 0 (told_by self.now) (apply round tray sheet)) }
+        ensures { Passes (refusal 0 (told_by self.now) (apply round tray sheet)) result }
     {
         let length = self.plan.tray_length();
         if tray != length {
@@ -37,6 +36,7 @@ impl Record {
         ensures turns { ApplyTurns E.Element.group E.Element.meaning (told_by self.old) note tray.old sheet.old (told_by self.new) tray.new sheet.new result }
         ensures back { GivesBack note result }
     {
+        // Kept: the closure of a map_err would take the note, which an accepted apply still spends.
         if let Err(refusal) = self.judge_apply(note.round(), tray.len(), sheet.len()) {
             return Err(Returned { refusal, note });
         }

@@ -1,12 +1,11 @@
-ghost use Rattle.std.specs.Prelude.{◌≡◌, MatchResult};
 ghost use Rattle.sharing.specs.Calls.{deal_refusal};
 ghost use Rattle.sharing.specs.Promise.{HidesAsAsked, Restores};
 ghost use Rattle.sharing.specs.Secrecy.{OppositeUndoes};
 ghost use Rattle.sharing.specs.Threshold.{scheme_of};
-ghost use Rattle.trays.specs.Refusals.{number_of};
+ghost use Rattle.trays.specs.Refusals.{Passes};
 ghost use Rattle.trays.specs.Turns.{Deals};
 
-use crate::dealing::lay;
+use crate::dealing::Dealing;
 use crate::record::Record;
 use crate::refusal::Refusal;
 use kinds::element::Element;
@@ -14,8 +13,9 @@ use plans::plan::Plan;
 use sharing::{groups_restore, runs_hide};
 
 // Refuses a deal by the lengths of key, random elements and tray.
+#[tactic(auto, using(crate::proofs::Lengths::random_long, crate::proofs::Lengths::tray_long))]
 fn judge(plan: &Plan, key: usize, random: usize, tray: usize) -> Result<(), Refusal>
-    ensures { MatchResult result (λ _. deal_refusal (scheme_of plan.now) key random tray ≡ 0) (λ e. number_of e ≡ deal_refusal (scheme_of plan.now) key random tray) }
+    ensures { Passes (deal_refusal (scheme_of plan.now) key random tray) result }
 {
     if key != plan.components() {
         return Err(Refusal::Key);
@@ -47,7 +47,13 @@ pub fn deal<E: Element>(
     runs_hide::<E>();
     groups_restore::<E>();
     judge(&plan, key.len(), random.len(), tray.len())?;
-    lay(&plan.table(), key, random, tray);
+    let table = plan.table();
+    let dealing = Dealing {
+        table: &table,
+        key: Some(key),
+        random,
+    };
+    dealing.lay(tray);
     Ok(Record {
         plan,
         issue,

@@ -1,9 +1,8 @@
-ghost use Rattle.std.specs.Prelude.{◌≡◌, MatchResult};
 ghost use Rattle.sharing.specs.Calls.{draw, refusal};
-ghost use Rattle.trays.specs.Refusals.{number_of};
+ghost use Rattle.trays.specs.Refusals.{Passes};
 ghost use Rattle.trays.specs.Turns.{DrawTurns, told_by};
 
-use crate::dealing::lay;
+use crate::dealing::Dealing;
 use crate::note::Note;
 use crate::record::Record;
 use crate::refusal::Refusal;
@@ -11,8 +10,9 @@ use kinds::element::Element;
 
 impl Record {
     // Refuses a draw by the lengths of random elements and sheet.
+    #[tactic(auto, using(crate::proofs::Lengths::random_long, crate::proofs::Lengths::tray_long))]
     fn judge_draw(&self, random: usize, sheet: usize) -> Result<(), Refusal>
-        ensures { MatchResult result (λ _. refusal 0 (told_by self.now) (draw random sheet) ≡ 0) (λ e. number_of e ≡ refusal 0 (told_by self.now) (draw random sheet)) }
+        ensures { Passes (refusal 0 (told_by self.now) (draw random sheet)) result }
     {
         if self.drawn {
             return Err(Refusal::DrawIsOpen);
@@ -34,8 +34,13 @@ impl Record {
         ensures { DrawTurns E.Element.group E.Element.meaning (told_by self.old) random.now sheet.old (told_by self.new) sheet.new result }
     {
         self.judge_draw(random.len(), sheet.len())?;
-        let no_key = &random[0..0];
-        lay(&self.plan.table(), no_key, random, sheet);
+        let table = self.plan.table();
+        let dealing = Dealing {
+            table: &table,
+            key: None,
+            random,
+        };
+        dealing.lay(sheet);
         self.drawn = true;
         Ok(Note::new(self.round))
     }

@@ -1,6 +1,5 @@
-ghost use Rattle.std.specs.Prelude.{◌≡◌, MatchResult};
 ghost use Rattle.sharing.specs.Calls.{read, refusal};
-ghost use Rattle.trays.specs.Refusals.{number_of};
+ghost use Rattle.trays.specs.Refusals.{Passes};
 ghost use Rattle.trays.specs.Turns.{HandsOut, ReadTurns, told_by};
 
 use crate::record::Record;
@@ -11,7 +10,7 @@ use kinds::element::Element;
 impl Record {
     // Refuses a reading by the harbour and the length of the tray.
     fn judge_read(&self, harbour: usize, tray: usize) -> Result<(), Refusal>
-        ensures { MatchResult result (λ _. refusal 0 (told_by self.now) (read harbour tray) ≡ 0) (λ e. number_of e ≡ refusal 0 (told_by self.now) (read harbour tray)) }
+        ensures { Passes (refusal 0 (told_by self.now) (read harbour tray)) result }
     {
         if tray != self.plan.tray_length() {
             return Err(Refusal::Tray);

@@ -1,19 +1,13 @@
-use Rattle.std.proofs.Common.{map, refl, rules}
+use Rattle.std.proofs.Common.{map, rules}
 use Rattle.std.proofs.lemmas.List.{length-map}
 use Rattle.trays.proofs.Places.{adds_element, all_added}
 use Rattle.trays.proofs.slips.add.Goals as goal
 
--- src/slips.rt
-pub loop-place-init : goal.loop-place-init
-loop-place-init g c = refl
-
--- src/slips.rt
 pub loop-place-preserved : goal.loop-place-preserved
 loop-place-preserved g c =
     adds_element g.E.Element.group g.E.Element.meaning c.args.to.now c.args.from.now c.loop-place.to c.loop-place.place c.sum.result c.index-to-place.result c.index-from-place.result
     c.loop-place.invariant c.requires (search rules) c.index-from-place.is (search rules)
 
--- src/slips.rt
 pub returns : goal.returns
 returns g c =
     all_added g.E.Element.group g.E.Element.meaning c.args.to.now c.loop-place.to (map g.E.Element.meaning c.args.from.now) c.loop-place.place
