@@ -1,11 +1,11 @@
 -- What the answer of a call says of its turn: whether it was refused, and what the record tells afterwards. Assumes nothing.
-use Rattle.std.proofs.Common.{◌≡◌, ℕ, ◌+◌, Bool, true, false, cond, eqb, List, [], map, length, Ok, Err, Result, sym, refl, ap, ◌∙◌, arith, MatchResult}
-use Rattle.std.proofs.lemmas.Bool.{eq-eqb, eqb-false, eqb-true, ne_eqb}
+use Rattle.std.proofs.Common.{◌≡◌, ℕ, ◌+◌, Bool, true, false, cond, eqb, List, [], map, length, Ok, Err, Result, sym, refl, ap, ◌∙◌, arith, IsOk}
+use Rattle.std.proofs.lemmas.Bool.{eq-eqb, eqb-false, eqb-true, ne_eqb, true≢false}
 use Rattle.kinds.specs.Group.{Group}
 use Rattle.sharing.specs.Calls.{Call, Told, after, apply, audit, current, discard, draw, own, picture, random_count, read, refusal, reissue, tray_length, turned}
 use Rattle.sharing.specs.Dealing.{added, dealing, zeros}
 use Rattle.sharing.specs.Promise.{kind_of}
-use Rattle.sharing.specs.Steps.{Does, Seen, State, Step, noted, refused, stale, wiped}
+use Rattle.sharing.specs.Steps.{Does, Seen, State, Step, agrees, differs, done, handed, noted, pictured, refused, reissued, stale, wiped}
 use Rattle.sharing.proofs.Turning.{fits, passes}
 use Rattle.trays.specs.Refusals.{number_of}
 use Rattle.trays.specs.Turns.{ApplyTurns, DiscardTurns, DrawTurns, Turns, holding, seen_discard}
@@ -14,7 +14,23 @@ use Rattle.trays.specs.declared.answer.Discarded.TheVariants.{Stale, Wiped}
 use Rattle.trays.specs.declared.note.Note.{Note}
 use Rattle.trays.specs.declared.note.Returned.{Returned}
 use Rattle.trays.specs.declared.refusal.Refusal.{Refusal}
-use Rattle.rehearsal.specs.Rounds.{Renewed, TurnedBack, Undone, Withdrawn, refusal_of_both, renewal}
+use Rattle.rehearsal.specs.Rounds.{Renewed, SameTray, TurnedBack, Undone, Withdrawn, refusal_of_both, renewal}
+
+-- whether an answer is no refusal, by which a refusal is told from every other answer
+abbrev granted : {V : Type 0} → Seen V → Bool
+granted (refused n) = false
+granted (noted round) = true
+granted done = true
+granted wiped = true
+granted stale = true
+granted (handed card) = true
+granted (pictured bytes) = true
+granted agrees = true
+granted (differs g) = true
+granted reissued = true
+
+unlike : {V : Type 0} (v : Seen V) (n : ℕ) → granted v ≡ true → v ≡ refused n → ⊥
+unlike v n yes' is = true≢false (sym yes' ∙ ap granted is)
 
 -- the refusal that a discard does not give, so that its note is spent
 pub discard_fits : (t : Told) (note n : ℕ) → n ≡ tray_length t.scheme → refusal 0 t (discard note n) ≡ 0
@@ -69,7 +85,7 @@ module _ {E : Type 0} (G : Group) (meaning : E → G.Value) where
 
   pub drew : (t : Told) (random sheet : List E) (t' : Told) (sheet' : List E) (note : Note) → DrawTurns G meaning t random sheet t' sheet' (Ok note) → Drew t random sheet t' sheet' note
   drew t random sheet t' sheet' note turns =
-      let a = accepted G meaning (holding t [] sheet) (holding t' [] sheet') (draw (length random) (length sheet)) random (noted note.round) (turns []) (λ n e. let z : ◌≡◌ {A = ℕ} 0 1 = cc in omega arith) in
+      let a = accepted G meaning (holding t [] sheet) (holding t' [] sheet') (draw (length random) (length sheet)) random (noted note.round) (turns []) (λ n. unlike (noted note.round) n refl) in
       let seen = a.2.1.1 in
       let bears : note.round ≡ t.round = cc in
       record { none = a.0; told = a.1; bears = bears; laid = a.2.1.0 }
@@ -79,14 +95,14 @@ module _ {E : Type 0} (G : Group) (meaning : E → G.Value) where
       → (number_of e ≡ refusal 0 t (draw (length random) (length sheet))) × (refusal 0 t (draw (length random) (length sheet)) ≡ 0 → ⊥) × (t' ≡ t)
   undrawn t random sheet t' sheet' e turns =
       let a = rejected G meaning (holding t [] sheet) (holding t' [] sheet') (draw (length random) (length sheet)) random (refused (number_of e)) (turns []) (number_of e) refl
-      (λ does. let seen = does.1.1 in let z : ◌≡◌ {A = ℕ} 0 1 = cc in omega arith) in
+      (λ does. unlike (noted t.round) (number_of e) refl (sym does.1.1)) in
       (a.0, a.1, a.2)
 
   -- what an apply that passed leaves
   pub applied : (t : Told) (note : Note) (tray sheet : List E) (t' : Told) (tray' sheet' : List E) → ApplyTurns G meaning t note tray sheet t' tray' sheet' (Ok tt)
       → (t' ≡ turned t (t.round + 1) false) × (map meaning tray' ≡ added G (map meaning tray) (map meaning sheet)) × (map meaning sheet' ≡ zeros G (length sheet))
   applied t note tray sheet t' tray' sheet' turns =
-      let a = accepted G meaning (holding t tray sheet) (holding t' tray' sheet') (apply note.round (length tray) (length sheet)) [] _ turns (λ n e. let z : ◌≡◌ {A = ℕ} 0 1 = cc in omega arith) in
+      let a = accepted G meaning (holding t tray sheet) (holding t' tray' sheet') (apply note.round (length tray) (length sheet)) [] done turns (λ n. unlike done n refl) in
       (a.1, a.2.0, a.2.1)
 
   -- an apply that was refused
@@ -94,7 +110,7 @@ module _ {E : Type 0} (G : Group) (meaning : E → G.Value) where
       → (number_of e.refusal ≡ refusal 0 t (apply note.round (length tray) (length sheet))) × (t' ≡ t) × (sheet' ≡ sheet)
   unapplied t note tray sheet t' tray' sheet' e turns =
       let a = rejected G meaning (holding t tray sheet) (holding t' tray' sheet') (apply note.round (length tray) (length sheet)) [] (refused (number_of e.refusal)) turns (number_of e.refusal) refl
-      (λ does. let seen = does.2 in let z : ◌≡◌ {A = ℕ} 0 1 = cc in omega arith) in
+      (λ does. unlike done (number_of e.refusal) refl (sym does.2)) in
       (a.0, a.2, a.4)
 
   -- a discard with a sheet as long as the tray is not refused
@@ -106,12 +122,17 @@ module _ {E : Type 0} (G : Group) (meaning : E → G.Value) where
       go : (b : Bool) → current t note.round ≡ b
           → (current t note.round ≡ true → (map meaning sheet' ≡ zeros G (length sheet)) × (◌≡◌ {A = Seen G.Value} (refused (number_of e.refusal)) wiped))
           × (current t note.round ≡ false → (sheet' ≡ sheet) × (◌≡◌ {A = Seen G.Value} (refused (number_of e.refusal)) stale)) → ⊥
-      go true is a = let seen = (a.0 is).1 in let z : ◌≡◌ {A = ℕ} 0 1 = cc in omega arith
-      go false is a = let seen = (a.1 is).1 in let z : ◌≡◌ {A = ℕ} 0 1 = cc in omega arith
+      go true is a = unlike wiped (number_of e.refusal) refl (sym (a.0 is).1)
+      go false is a = unlike stale (number_of e.refusal) refl (sym (a.1 is).1)
+
+  -- so it answers what became of the draw
+  pub always_spent : (t : Told) (note : Note) (sheet : List E) (t' : Told) (sheet' : List E) (r : Result Discarded Returned) → length sheet ≡ tray_length t.scheme → DiscardTurns G meaning t note sheet t' sheet' r → IsOk r
+  always_spent t note sheet t' sheet' (Ok answer) long turns = refl
+  always_spent t note sheet t' sheet' (Err e) long turns = absurd (never_kept t note sheet t' sheet' e long turns)
 
   no_refusal : (r : Discarded) (n : ℕ) → seen_discard {V = G.Value} (Ok r) ≡ refused n → ⊥
-  no_refusal Wiped n e = let z : ◌≡◌ {A = ℕ} 0 1 = cc in omega arith
-  no_refusal Stale n e = let z : ◌≡◌ {A = ℕ} 0 1 = cc in omega arith
+  no_refusal Wiped n = unlike wiped n refl
+  no_refusal Stale n = unlike stale n refl
 
   seen_wiped : (r : Discarded) → seen_discard {V = G.Value} (Ok r) ≡ wiped → r ≡ Wiped
   seen_wiped Wiped e = refl
@@ -131,20 +152,10 @@ module _ {E : Type 0} (G : Group) (meaning : E → G.Value) where
 
   -- a draw that was opened and closed again
   pub back_again : (t t' t'' : Told) → t' ≡ turned t t.round true → t'' ≡ turned t' t'.round false → t.drawn ≡ false → Undone t t''
-  back_again t t' t'' one two shut = record {
-    scheme = ap (λ x. x.scheme) two ∙ ap (λ x. x.scheme) one;
-    issue = ap (λ x. x.issue) two ∙ ap (λ x. x.issue) one;
-    round = ap (λ x. x.round) two ∙ ap (λ x. x.round) one;
-    drawn = ap (λ x. x.drawn) two ∙ sym shut;
-  }
+  back_again t t' t'' one two shut = rw (two, one) (record { scheme = refl; issue = refl; round = refl; drawn = sym shut })
 
   pub unchanged : (t t' : Told) → t' ≡ t → Undone t t'
-  unchanged t t' same = record {
-    scheme = ap (λ x. x.scheme) same;
-    issue = ap (λ x. x.issue) same;
-    round = ap (λ x. x.round) same;
-    drawn = ap (λ x. x.drawn) same;
-  }
+  unchanged t t' same = rw same (record { scheme = refl; issue = refl; round = refl; drawn = refl })
 
   module _ (t : Told) (random sheet : List E) (t' : Told) (sheet' : List E) where
     -- after a draw that gave a note, the sheet is as long as the tray
@@ -152,6 +163,10 @@ module _ {E : Type 0} (G : Group) (meaning : E → G.Value) where
     drawn_fits note turns =
         let d = drew t random sheet t' sheet' note turns in
         (draw_asks t (length random) (length sheet) d.none).1 ∙ ap (λ x. tray_length x.scheme) (sym d.told)
+
+    -- and it still is, whatever a call made of the tray that the record tells of
+    pub fits_still : (note : Note) → DrawTurns G meaning t random sheet t' sheet' (Ok note) → (t'' : Told) (sheet'' : List E) → length sheet'' ≡ length sheet → SameTray t' t'' → length sheet'' ≡ tray_length t''.scheme
+    fits_still note turns t'' sheet'' long same = long ∙ drawn_fits note turns ∙ sym (ap tray_length same)
 
     pub draw_back : (e : Refusal) → DrawTurns G meaning t random sheet t' sheet' (Err e) → TurnedBack t t' (refusal 0 t (draw (length random) (length sheet))) e
     draw_back e turns = let u = undrawn t random sheet t' sheet' e turns in record { why = u.0; undone = unchanged t t' u.2 }
@@ -176,9 +191,9 @@ module _ {E : Type 0} (G : Group) (meaning : E → G.Value) where
     module _ (note : Note) (opened : DrawTurns G meaning t random sheet t' sheet' (Ok note)) (tray : List E) (t'' : Told) (tray' sheet'' : List E) where
       pub renewed : (bore : ℕ) → length sheet' ≡ length sheet → bore ≡ note.round → ApplyTurns G meaning t' note tray sheet' t'' tray' sheet'' (Ok tt)
           → Renewed G meaning t random tray sheet t'' tray' sheet'' bore
-      renewed bore long bears done =
+      renewed bore long bears ended =
           let d = drew t random sheet t' sheet' note opened in
-          let a = applied t' note tray sheet' t'' tray' sheet'' done in
+          let a = applied t' note tray sheet' t'' tray' sheet'' ended in
           record {
             bears = bears ∙ d.bears;
             told = a.0 ∙ ap (λ x. turned x (x.round + 1) false) d.told;
@@ -233,9 +248,3 @@ module _ {E : Type 0} (G : Group) (meaning : E → G.Value) where
   keeps_discarded t note sheet t' sheet' r turns =
       let c : Call = discard note.round (length sheet) in
       ap (λ x. x.scheme) (turns [] (λ _. 0) 0 0).0 ∙ same_turned (eqb (refusal 0 t c) 0) t c
-
-  -- a draw that is discarded, or refused, leaves the record as it was
-  pub either_undone : (t : Told) (sheet : List E) (t' : Told) (sheet' : List E) (n : ℕ) (r : Result (ℕ × Discarded) Refusal)
-      → MatchResult r (λ p. Withdrawn G meaning t sheet t' sheet' p.0 p.1) (λ e. TurnedBack t t' n e) → Undone t t'
-  either_undone t sheet t' sheet' n (Ok p) cases = cases.undone
-  either_undone t sheet t' sheet' n (Err e) cases = cases.undone

@@ -2,3 +2,4 @@ pub mod Answers
 pub mod Desks
 pub mod Names
 pub mod Rounds
+pub mod Trials

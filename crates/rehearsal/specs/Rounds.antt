@@ -1,5 +1,5 @@
 -- What a round does to a tray, whose note is spent by an apply or a discard. Assumes nothing.
-use Rattle.std.specs.Prelude.{◌≡◌, ℕ, ◌+◌, false, cond, List, map, length, ◌==◌}
+use Rattle.std.specs.Prelude.{◌≡◌, ℕ, ◌+◌, false, cond, List, map, length, ◌==◌, Result, MatchResult}
 use Rattle.kinds.specs.Group.{Group}
 use Rattle.plans.specs.Shape.{shape_of}
 use Rattle.plans.specs.declared.plan.Plan.{Plan}
@@ -7,14 +7,21 @@ use Rattle.sharing.specs.Calls.{Call, Told, after, apply, draw, refusal, tray_le
 use Rattle.sharing.specs.Dealing.{added, dealing, zeros}
 use Rattle.sharing.specs.Threshold.{scheme_of}
 use Rattle.trays.specs.Refusals.{number_of}
+use Rattle.trays.specs.Turns.{told_by}
 use Rattle.trays.specs.declared.answer.Discarded.{Discarded}
 use Rattle.trays.specs.declared.answer.Discarded.TheVariants.{Wiped}
 use Rattle.trays.specs.declared.record.Record.{Record}
 use Rattle.trays.specs.declared.refusal.Refusal.{Refusal}
+use Rattle.rehearsal.specs.declared.rounds.Lent.{Lent}
 
 -- A plan has these three numbers.
 abbrev pub Asked : ℕ → ℕ → ℕ → Plan → Type 0
 Asked n t k p = shape_of p ≡ record { harbours = n; threshold = t; components = k }
+
+-- What was lent is lent still: the record, the tray and the sheet are the same ones.
+abbrev pub StillLends : {E : Type 0} → Lent E → Lent E → Type 0
+StillLends l l' =
+    (l'.book.ghost_name ≡ l.book.ghost_name) × (l'.tray.ghost_name ≡ l.tray.ghost_name) × (l'.sheet.ghost_name ≡ l.sheet.ghost_name)
 
 -- So many places are as many as the tray of a record has.
 abbrev pub Fits : Record → ℕ → Type 0
@@ -62,3 +69,10 @@ module _ {E : Type 0} (G : Group) (meaning : E → G.Value) where
 pub record TurnedBack (t t' : Told) (number : ℕ) (e : Refusal) : Type 0 where
   pub why : number_of e ≡ number
   pub undone : Undone t t'
+
+-- A renewal of what is lent: a round was drawn and applied, or one of the two calls was refused.
+abbrev pub Renews : {E : Type 0} → (G : Group) → (E → G.Value) → List E → Lent E → Lent E → Result ℕ Refusal → Type 0
+Renews G meaning random l l' r =
+    MatchResult r
+    (λ bore. Renewed G meaning (told_by l.book.now) random l.tray.now l.sheet.now (told_by l'.book.now) l'.tray.now l'.sheet.now bore)
+    (λ e. TurnedBack (told_by l.book.now) (told_by l'.book.now) (renewal (told_by l.book.now) random l.tray.now l.sheet.now) e)

@@ -1,12 +1,11 @@
-// What is seen of a call.
+// What is seen of a call that is not turned away.
 ghost use Rattle.std.specs.Prelude.{◌≡◌};
-ghost use Rattle.rehearsal.specs.Answers.{from_audit, from_discard, refused_with};
+ghost use Rattle.rehearsal.specs.Answers.{from_audit, from_discard};
 
 use std::fmt;
 use trays::answer::Discarded;
-use trays::refusal::Refusal;
 
-// The answer of a call, or its refusal.
+// The answer of a call.
 #[derive(Clone, Copy)]
 pub enum Answer {
     // The key is dealt.
@@ -25,39 +24,28 @@ pub enum Answer {
     Agrees,
     // This group restores otherwise.
     Differs(usize),
-    // The call is turned away.
-    Refused(Refusal),
 }
 
-impl Answer {
-    // What a discard answers.
-    pub(crate) fn of_discard(answer: Discarded) -> Answer
-        ensures { result ≡ from_discard answer }
-    {
-        match answer {
+// What a discard answers.
+impl From<Discarded> for Answer {
+    ghost from_gives = { λ discarded answer. answer ≡ from_discard discarded };
+
+    fn from(discarded: Discarded) -> Answer {
+        match discarded {
             Discarded::Wiped => Answer::Wiped,
             Discarded::Stale => Answer::Stale,
         }
     }
+}
 
-    // What an audit answers.
-    pub(crate) fn of_audit(answer: Result<Option<usize>, Refusal>) -> Answer
-        ensures { result ≡ from_audit answer }
-    {
-        match answer {
-            Ok(None) => Answer::Agrees,
-            Ok(Some(number)) => Answer::Differs(number),
-            Err(refusal) => Answer::Refused(refusal),
-        }
-    }
+// What an audit answers, by the group that restores otherwise, if there is one.
+impl From<Option<usize>> for Answer {
+    ghost from_gives = { λ group answer. answer ≡ from_audit group };
 
-    // The number of the refusal, or 0.
-    pub(crate) fn number(self) -> u8
-        ensures { result ≡ refused_with self }
-    {
-        match self {
-            Answer::Refused(refusal) => refusal.number(),
-            _ => 0,
+    fn from(group: Option<usize>) -> Answer {
+        match group {
+            None => Answer::Agrees,
+            Some(number) => Answer::Differs(number),
         }
     }
 }
@@ -73,7 +61,6 @@ impl fmt::Display for Answer {
             Answer::Handed(count) => write!(f, "{count} slips"),
             Answer::Agrees => write!(f, "agrees"),
             Answer::Differs(number) => write!(f, "group {number} restores otherwise"),
-            Answer::Refused(refusal) => write!(f, "{refusal}"),
         }
     }
 }

@@ -1,55 +1,74 @@
 // How elements, cards and records are printed.
-ghost use Rattle.std.specs.Prelude.{◌≡◌, codes};
+ghost use Rattle.std.specs.Prelude.{◌≡◌};
 ghost use Rattle.rehearsal.specs.Names.{name_of};
 
+use crate::rounds::Lent;
 use kinds::card::Card;
+use kinds::dial_number::DialNumber;
+use kinds::key_word::KeyWord;
+use kinds::mask_byte::MaskByte;
+use plans::plan::Plan;
 use std::io;
 use trays::record::Record;
 
-// The kind code of mask bytes, which are printed in hexadecimal.
-const MASK_BYTES: u8 = 2;
+// A kind that can be shown: it has a name, and its elements are printed.
+pub trait Shown: Card {
+    // The name of the kind.
+    fn name() -> &'static str
+        ensures { result.now ≡ name_of Self.Card.kind };
 
-// The name of the kind with a code.
-fn kind_name(kind: u8) -> &'static str
-    ensures { result.now ≡ name_of kind }
-{
-    match kind {
-        1 => "key words",
-        2 => "mask bytes",
-        3 => "dial numbers",
-        _ => "elements",
+    // Prints an element behind a space.
+    fn print(&self, rt: &HostRuntime) -> io::Result<()> {
+        let code = self.code();
+        print!(rt; " {code}")
+    }
+}
+
+impl Shown for KeyWord {
+    fn name() -> &'static str {
+        "key words"
+    }
+}
+
+impl Shown for MaskByte {
+    fn name() -> &'static str {
+        "mask bytes"
+    }
+
+    // Mask bytes are printed in hexadecimal.
+    fn print(&self, rt: &HostRuntime) -> io::Result<()> {
+        let code = self.code();
+        print!(rt; " {code:02X}")
+    }
+}
+
+impl Shown for DialNumber {
+    fn name() -> &'static str {
+        "dial numbers"
     }
 }
 
 // Prints elements, each behind a space.
-pub(crate) fn print_elements<C: Card>(rt: &HostRuntime, elements: &[C]) -> io::Result<()> {
+pub(crate) fn print_elements<C: Shown>(rt: &HostRuntime, elements: &[C]) -> io::Result<()> {
     for element in elements {
-        let code = element.code();
-        if C::kind_code() == MASK_BYTES {
-            print!(rt; " {code:02X}")?;
-        } else {
-            print!(rt; " {code}")?;
-        }
+        element.print(rt)?;
     }
     Ok(())
 }
 
-// Prints the plan of a record, with the name of the kind.
-pub(crate) fn print_plan<C: Card>(
-    rt: &HostRuntime,
-    harbours: usize,
-    threshold: usize,
-    components: usize,
-) -> io::Result<()> {
-    let name = kind_name(C::kind_code());
+// Prints a plan, with the name of the kind.
+pub(crate) fn print_plan<C: Shown>(rt: &HostRuntime, plan: &Plan) -> io::Result<()> {
+    let harbours = plan.harbours();
+    let threshold = plan.threshold();
+    let components = plan.components();
+    let name = C::name();
     println!(rt; "plan: {harbours} harbours, threshold {threshold}, key of {components}, in {name}")
 }
 
 // Prints the card of each harbour, as it is read.
-pub(crate) fn print_cards<C: Card>(rt: &HostRuntime, book: &Record, tray: &[C]) -> io::Result<()> {
-    for bit in 0..book.plan().harbours() {
-        let harbour = bit + 1;
-        match book.read(tray, harbour) {
+pub(crate) fn print_cards<C: Shown>(rt: &HostRuntime, lent: &Lent<C>) -> io::Result<()> {
+    for harbour in 1..=lent.book.plan().harbours() {
+        match lent.book.read(lent.tray, harbour) {
             Ok(card) => {
                 print!(rt; "card {harbour}:")?;
                 print_elements(rt, card)?;

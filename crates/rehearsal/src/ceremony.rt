@@ -1,12 +1,12 @@
 // A ceremony in any kind of element: a deal, a round that is applied, one that is discarded, and an audit.
 use crate::answer::Answer;
-use crate::cards::{print_cards, print_elements, print_plan, print_record};
-use crate::rounds::{renew, withdraw};
-use kinds::card::Card;
+use crate::calls::audit;
+use crate::cards::{Shown, print_cards, print_elements, print_plan, print_record};
+use crate::rounds::{Lent, withdraw};
 use plans::plan::Plan;
 use std::io;
-use trays::record::Record;
 use trays::record::deal::deal;
+use trays::refusal::Refusal;
 
 // What a ceremony begins with: a plan, an issue number, a key, and random elements for the deal and for each draw.
 #[derive(Clone, Copy)]
@@ -19,14 +19,9 @@ pub struct Ceremony<'a, C> {
 }
 
 // Prints what goes into a deal.
-fn print_deal<C: Card>(rt: &HostRuntime, ceremony: &Ceremony<C>) -> io::Result<()> {
+fn print_deal<C: Shown>(rt: &HostRuntime, ceremony: &Ceremony<C>) -> io::Result<()> {
     let issue = ceremony.issue;
-    print_plan::<C>(
-        rt,
-        ceremony.plan.harbours(),
-        ceremony.plan.threshold(),
-        ceremony.plan.components(),
-    )?;
+    print_plan::<C>(rt, &ceremony.plan)?;
     print!(rt; "deal: key")?;
     print_elements(rt, ceremony.key)?;
     print!(rt; ", random")?;
@@ -34,71 +29,60 @@ fn print_deal<C: Card>(rt: &HostRuntime, ceremony: &Ceremony<C>) -> io::Result<(
     println!(rt; ", issue {issue}")
 }
 
-// Draws and applies, and prints both.
-fn print_renewal<C: Card>(
+// Prints a draw, and what spent its note.
+fn print_round<C: Shown>(
     rt: &HostRuntime,
-    book: &mut Record,
     more: &[C],
-    tray: &mut [C],
-    sheet: &mut [C],
+    call: &str,
+    round: Result<(u16, Answer), Refusal>,
 ) -> io::Result<()> {
-    let renewal = renew(book, more, tray, sheet);
     print!(rt; "draw: random")?;
     print_elements(rt, more)?;
-    match renewal {
-        Ok(round) => {
-            println!(rt; ", a note of round {round}")?;
-            println!(rt; "apply: applied")
+    match round {
+        Ok((bore, answer)) => {
+            println!(rt; ", a note of round {bore}")?;
+            println!(rt; "{call}: {answer}")
         }
         Err(refusal) => println!(rt; ", {refusal}"),
     }
+}
+
+// Draws and applies, and prints both.
+fn print_renewal<C: Shown>(rt: &HostRuntime, lent: &mut Lent<C>, more: &[C]) -> io::Result<()> {
+    let renewal = lent.renew(more).map(|bore| (bore, Answer::Applied));
+    print_round(rt, more, "apply", renewal)
 }
 
 // Draws and discards, and prints both.
-fn print_withdrawal<C: Card>(
-    rt: &HostRuntime,
-    book: &mut Record,
-    more: &[C],
-    sheet: &mut [C],
-) -> io::Result<()> {
-    let withdrawal = withdraw(book, more, sheet);
-    print!(rt; "draw: random")?;
-    print_elements(rt, more)?;
-    match withdrawal {
-        Ok((round, discarded)) => {
-            let answer = Answer::of_discard(discarded);
-            println!(rt; ", a note of round {round}")?;
-            println!(rt; "discard: {answer}")
-        }
-        Err(refusal) => println!(rt; ", {refusal}"),
-    }
+fn print_withdrawal<C: Shown>(rt: &HostRuntime, lent: &mut Lent<C>, more: &[C]) -> io::Result<()> {
+    let withdrawal = withdraw(lent.book, more, lent.sheet).map(|(bore, discarded)| (
+        bore,
+        Answer::from(discarded),
+    ));
+    print_round(rt, more, "discard", withdrawal)
 }
 
 // Audits, and prints what is found.
-fn print_audit<C: Card>(rt: &HostRuntime, book: &Record, tray: &[C]) -> io::Result<()> {
-    let answer = Answer::of_audit(book.audit(tray));
-    println!(rt; "audit: {answer}")
+fn print_audit<C: Shown>(rt: &HostRuntime, lent: &Lent<C>) -> io::Result<()> {
+    match audit(lent.book, lent.tray) {
+        Ok(answer) => println!(rt; "audit: {answer}"),
+        Err(refusal) => println!(rt; "audit: {refusal}"),
+    }
 }
 
 // Goes on from a deal.
-fn print_rounds<C: Card>(
-    rt: &HostRuntime,
-    book: &mut Record,
-    more: &[C],
-    tray: &mut [C],
-    sheet: &mut [C],
-) -> io::Result<()> {
-    print_cards(rt, book, tray)?;
-    print_renewal(rt, book, more, tray, sheet)?;
-    print_cards(rt, book, tray)?;
-    print_withdrawal(rt, book, more, sheet)?;
-    print_audit(rt, book, tray)?;
-    print_record(rt, book)?;
+fn print_rounds<C: Shown>(rt: &HostRuntime, lent: &mut Lent<C>, more: &[C]) -> io::Result<()> {
+    print_cards(rt, lent)?;
+    print_renewal(rt, lent, more)?;
+    print_cards(rt, lent)?;
+    print_withdrawal(rt, lent, more)?;
+    print_audit(rt, lent)?;
+    print_record(rt, lent.book)?;
     println!(rt)
 }
 
 // Runs a ceremony, and prints what it did.
-pub(crate) fn print_ceremony<C: Card>(
+pub(crate) fn print_ceremony<C: Shown>(
     rt: &HostRuntime,
     ceremony: &Ceremony<C>,
     tray: &mut [C],
@@ -112,7 +96,10 @@ pub(crate) fn print_ceremony<C: Card>(
         ceremony.random,
         tray,
     ) {
-        Ok(mut book) => print_rounds(rt, &mut book, ceremony.more, tray, sheet),
+        Ok(mut record) => {
+            let book = &mut record;
+            print_rounds(rt, &mut Lent { book, tray, sheet }, ceremony.more)
+        }
         Err(refusal) => println!(rt; "{refusal}"),
     }
 }

@@ -1,12 +1,13 @@
 // A tray on the desk with its sheet and its record, and what they were before a call.
 ghost use Rattle.std.specs.Prelude.{◌≡◌, T, ◌↔◌, map};
-ghost use Rattle.rehearsal.specs.Desks.{Keeps, Still};
+ghost use Rattle.rehearsal.specs.Desks.{Keeps, Still, Tells};
 
 use kinds::card::Card;
 use kinds::dial_number::DialNumber;
 use trays::record::Record;
 
 // A tray of six places in dial numbers, with its sheet and its record.
+// Kept: its places are arrays, since what lay on it is copied beside it, in fixed memory.
 #[derive(Drop)]
 pub struct Desk {
     pub book: Record,
@@ -14,12 +15,18 @@ pub struct Desk {
     pub sheet: [DialNumber; 6],
 }
 
-// What lay on a desk.
-#[derive(Clone, Copy)]
-pub struct Kept {
+// What a record tells: its issue number, its round, and whether a draw is open.
+#[derive(Clone, Copy, PartialEq, Eq)]
+struct Entry {
     issue: u32,
     round: u16,
     drawn: bool,
+}
+
+// What lay on a desk.
+#[derive(Clone, Copy)]
+pub struct Kept {
+    entry: Entry,
     tray: [DialNumber; 6],
     sheet: [DialNumber; 6],
 }
@@ -28,15 +35,22 @@ pub struct Kept {
 pub(crate) fn same_codes<C: Card>(these: &[C], those: &[C]) -> bool
     ensures { T result ↔ (map C.Card.coded these.now ≡ map C.Card.coded those.now) }
 {
-    if these.len() != those.len() {
-        return false;
-    }
-    for place in 0..these.len() {
-        if these[place].code() != those[place].code() {
-            return false;
+    let codes = these.iter().map(|this| this.code());
+    let others = those.iter().map(|that| that.code());
+    these.len() == those.len() && codes.zip(others).all(|(code, other)| code == other)
+}
+
+impl Entry {
+    // What a record tells now.
+    fn of(book: &Record) -> Entry
+        ensures { Tells book.now result }
+    {
+        Entry {
+            issue: book.issue(),
+            round: book.round(),
+            drawn: book.is_drawn(),
         }
     }
-    true
 }
 
 impl Kept {
@@ -45,9 +59,7 @@ impl Kept {
         ensures { Keeps desk.now result }
     {
         Kept {
-            issue: desk.book.issue(),
-            round: desk.book.round(),
-            drawn: desk.book.is_drawn(),
+            entry: Entry::of(&desk.book),
             tray: desk.tray,
             sheet: desk.sheet,
         }
@@ -57,9 +69,8 @@ impl Kept {
     pub(crate) fn is_still(&self, desk: &Desk) -> bool
         ensures { T result ↔ Still self.now desk.now }
     {
-        let told = self.issue == desk.book.issue()
-            && self.round == desk.book.round()
-            && self.drawn == desk.book.is_drawn();
-        told && same_codes(&self.tray, &desk.tray) && same_codes(&self.sheet, &desk.sheet)
+        self.entry == Entry::of(&desk.book)
+            && same_codes(&self.tray, &desk.tray)
+            && same_codes(&self.sheet, &desk.sheet)
     }
 }

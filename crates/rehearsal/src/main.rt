@@ -10,6 +10,7 @@ use kinds::mask_byte::MaskByte;
 use std::io;
 
 mod answer;
+mod calls;
 mod cards;
 mod ceremony;
 mod kept;

@@ -1,16 +1,15 @@
 // Every refusal of every call, in dial numbers, on a plan of three harbours with threshold two.
-ghost use Rattle.std.specs.Prelude.{◌≡◌, ◌<◌, true, false, codes};
+ghost use Rattle.std.specs.Prelude.{◌≡◌, true, false, codes};
 
+use crate::calls;
 use crate::kept::Desk;
-use crate::rounds::{plan_of, renew, renew_times};
-use crate::trial::{
-    Trial, try_apply_away, try_apply_over, try_apply_to, try_apply_with, try_audit, try_deal,
-    try_discard_away, try_discard_with, try_draw, try_read, try_second_draw,
-};
+use crate::rounds::{Lent, plan_of};
+use crate::trial::{Trial, try_call, try_deal, try_note, try_while_drawn};
 use kinds::dial_number::DialNumber;
 use kinds::element::Element;
 use plans::plan::Plan;
 use std::io;
+use trays::record::Record;
 use trays::record::deal::deal;
 use trays::refusal::Refusal;
 
@@ -31,9 +30,8 @@ const MORE: [DialNumber; 3] = [
 
 const EMPTY: [DialNumber; 6] = [DialNumber { held: 0 }; 6];
 
-const SHORT: [DialNumber; 5] = [DialNumber { held: 77 }; 5];
-
-const FULL: [DialNumber; 6] = [DialNumber { held: 77 }; 6];
+// A place of a tray that nothing is dealt onto.
+const UNDEALT: DialNumber = DialNumber { held: 77 };
 
 // What is said of the places.
 fn places(unaltered: bool) -> &'static str
@@ -49,9 +47,11 @@ fn places(unaltered: bool) -> &'static str
 
 // Prints a trial.
 fn print_trial(rt: &HostRuntime, what: &str, trial: Trial) -> io::Result<()> {
-    let answer = trial.answer;
     let places = places(trial.unaltered);
-    println!(rt; "{what}: {answer}; {places}")
+    match trial.answer {
+        Ok(answer) => println!(rt; "{what}: {answer}; {places}"),
+        Err(refusal) => println!(rt; "{what}: {refusal}; {places}"),
+    }
 }
 
 // Prints a trial that begins with a draw, or why there was no draw.
@@ -62,12 +62,10 @@ fn print_tried(rt: &HostRuntime, what: &str, tried: Result<Trial, Refusal>) -> i
     }
 }
 
-// A desk with a key dealt onto its tray, on as much of it as the plan takes.
-fn dealt(plan: Plan, issue: u32, random: &[DialNumber], part: usize) -> Result<Desk, Refusal>
-    requires { part < 7 }
-{
+// A desk with a key dealt onto its tray.
+fn dealt(plan: Plan, issue: u32) -> Result<Desk, Refusal> {
     let mut tray = EMPTY;
-    let book = deal(plan, issue, &KEY, random, &mut tray[0..part])?;
+    let book = deal(plan, issue, &KEY, &RANDOM, &mut tray)?;
     Ok(Desk {
         book,
         tray,
@@ -75,30 +73,22 @@ fn dealt(plan: Plan, issue: u32, random: &[DialNumber], part: usize) -> Result<D
     })
 }
 
-// Adds one to the slip at a place of the tray.
-fn spoil(desk: &mut Desk, place: usize)
-    requires { place < 6 }
-{
-    desk.tray[place] = desk.tray[place].sum(&DialNumber { held: 1 });
-}
-
 // Deals, refused.
 fn print_deals(rt: &HostRuntime, plan: Plan) -> io::Result<()> {
-    let mut tray = FULL;
     print_trial(
         rt,
         "deal with a key of 2",
-        try_deal(plan, &MORE[0..2], &RANDOM, &mut tray, 6),
+        try_deal(plan, &MORE[..2], &RANDOM, [UNDEALT; 6]),
     )?;
     print_trial(
         rt,
         "deal with 2 random elements",
-        try_deal(plan, &KEY, &RANDOM[0..2], &mut tray, 6),
+        try_deal(plan, &KEY, &RANDOM[..2], [UNDEALT; 6]),
     )?;
     print_trial(
         rt,
         "deal onto a tray of 5",
-        try_deal(plan, &KEY, &RANDOM, &mut tray, 5),
+        try_deal(plan, &KEY, &RANDOM, [UNDEALT; 5]),
     )
 }
 
@@ -107,39 +97,65 @@ fn print_draws(rt: &HostRuntime, desk: &mut Desk) -> io::Result<()> {
     print_tried(
         rt,
         "draw while a draw is open",
-        try_second_draw(desk, &MORE),
+        try_while_drawn(desk, &MORE, |desk| {
+            Ok(try_call(desk, |desk| {
+                calls::draw(&mut desk.book, &MORE, &mut desk.sheet)
+            }))
+        }),
     )?;
     print_trial(
         rt,
         "draw with 2 random elements",
-        try_draw(desk, &MORE[0..2], 6),
+        try_call(desk, |desk| {
+            calls::draw(&mut desk.book, &MORE[..2], &mut desk.sheet)
+        }),
     )?;
-    print_trial(rt, "draw onto a sheet of 5", try_draw(desk, &MORE, 5))
+    print_trial(
+        rt,
+        "draw onto a sheet of 5",
+        try_call(desk, |desk| {
+            calls::draw(&mut desk.book, &MORE, &mut desk.sheet[0..5])
+        }),
+    )
 }
 
 // Applies, refused. The other desk goes on to a round of its own for the last.
 fn print_applies(rt: &HostRuntime, home: &mut Desk, away: &mut Desk) -> io::Result<()> {
-    let mut short = SHORT;
     print_tried(
         rt,
         "apply to a tray of 5",
-        try_apply_to(home, &MORE, &mut short),
+        try_note(home, away, &MORE, |home, _, note| {
+            calls::apply(&mut home.book, note, &mut home.tray[0..5], &mut home.sheet)
+        }),
     )?;
     print_tried(
         rt,
         "apply with a sheet of 5",
-        try_apply_with(home, &MORE, &mut short),
+        try_note(home, away, &MORE, |home, _, note| {
+            calls::apply(&mut home.book, note, &mut home.tray, &mut home.sheet[0..5])
+        }),
     )?;
     print_tried(
         rt,
         "apply with no draw open",
-        try_apply_away(away, home, &MORE),
+        try_note(away, home, &MORE, |_, home, note| {
+            calls::apply(&mut home.book, note, &mut home.tray, &mut home.sheet)
+        }),
     )?;
-    match renew(&mut away.book, &MORE, &mut away.tray, &mut away.sheet) {
+    let mut lent = Lent {
+        book: &mut away.book,
+        tray: &mut away.tray,
+        sheet: &mut away.sheet,
+    };
+    match lent.renew(&MORE) {
         Ok(_) => print_tried(
             rt,
             "apply with a note of another round",
-            try_apply_over(home, away, &MORE),
+            try_while_drawn(away, &MORE, |away| {
+                try_note(home, away, &MORE, |_, away, note| {
+                    calls::apply(&mut away.book, note, &mut away.tray, &mut away.sheet)
+                })
+            }),
         ),
         Err(refusal) => println!(rt; "{refusal}"),
     }
@@ -147,32 +163,59 @@ fn print_applies(rt: &HostRuntime, home: &mut Desk, away: &mut Desk) -> io::Resu
 
 // A discard that is refused, and one that is stale.
 fn print_discards(rt: &HostRuntime, home: &mut Desk, away: &mut Desk) -> io::Result<()> {
-    let mut short = SHORT;
     print_tried(
         rt,
         "discard with a sheet of 5",
-        try_discard_with(home, &MORE, &mut short),
+        try_note(home, away, &MORE, |home, _, note| {
+            calls::discard(&mut home.book, note, &mut home.sheet[0..5])
+        }),
     )?;
     print_tried(
         rt,
         "discard with a note of another record",
-        try_discard_away(away, home, &MORE),
+        try_note(away, home, &MORE, |_, home, note| {
+            calls::discard(&mut home.book, note, &mut home.sheet)
+        }),
     )
 }
 
 // Readings, refused.
-fn print_readings(rt: &HostRuntime, desk: &Desk) -> io::Result<()> {
-    print_trial(rt, "read a tray of 5", try_read(desk, 1, 5))?;
-    print_trial(rt, "read harbour 0", try_read(desk, 0, 6))?;
-    print_trial(rt, "read harbour 4", try_read(desk, 4, 6))
+fn print_readings(rt: &HostRuntime, desk: &mut Desk) -> io::Result<()> {
+    print_trial(
+        rt,
+        "read a tray of 5",
+        try_call(desk, |desk| calls::read(&desk.book, &desk.tray[..5], 1)),
+    )?;
+    print_trial(
+        rt,
+        "read harbour 0",
+        try_call(desk, |desk| calls::read(&desk.book, &desk.tray, 0)),
+    )?;
+    print_trial(
+        rt,
+        "read harbour 4",
+        try_call(desk, |desk| calls::read(&desk.book, &desk.tray, 4)),
+    )
 }
 
 // Audits: refused, and of a spoilt slip.
 fn print_audits(rt: &HostRuntime, desk: &mut Desk) -> io::Result<()> {
-    print_trial(rt, "audit a tray of 5", try_audit(desk, 5))?;
-    print_trial(rt, "audit", try_audit(desk, 6))?;
-    spoil(desk, 5);
-    print_trial(rt, "audit with the last slip spoilt", try_audit(desk, 6))
+    print_trial(
+        rt,
+        "audit a tray of 5",
+        try_call(desk, |desk| calls::audit(&desk.book, &desk.tray[..5])),
+    )?;
+    print_trial(
+        rt,
+        "audit",
+        try_call(desk, |desk| calls::audit(&desk.book, &desk.tray)),
+    )?;
+    desk.tray[5] = desk.tray[5].sum(&DialNumber { held: 1 });
+    print_trial(
+        rt,
+        "audit with the last slip spoilt",
+        try_call(desk, |desk| calls::audit(&desk.book, &desk.tray)),
+    )
 }
 
 // Every call on two desks.
@@ -184,52 +227,59 @@ fn print_calls(rt: &HostRuntime, home: &mut Desk, away: &mut Desk) -> io::Result
     print_audits(rt, home)
 }
 
+// Renews up to the last round, and once more into it; answers the round that the last note bore.
+fn renew_to_last(lent: &mut Lent<DialNumber>) -> Result<u16, Refusal> {
+    lent.renew_times(&[], 65_534)?;
+    lent.renew(&[])
+}
+
 // The last round: one place, and a draw in round 65534 and in round 65535.
-fn print_last_round(rt: &HostRuntime, desk: &mut Desk) -> io::Result<()> {
-    let none = &MORE[0..0];
-    if let Err(refusal) = renew_times(
-        &mut desk.book,
-        none,
-        &mut desk.tray[0..1],
-        &mut desk.sheet[0..1],
-        65_534,
-    ) {
-        return println!(rt; "{refusal}");
-    }
-    match renew(
-        &mut desk.book,
-        none,
-        &mut desk.tray[0..1],
-        &mut desk.sheet[0..1],
-    ) {
+fn print_last_round(
+    rt: &HostRuntime,
+    mut book: Record,
+    mut tray: [DialNumber; 6],
+) -> io::Result<()> {
+    let mut sheet = EMPTY;
+    let mut lent = Lent {
+        book: &mut book,
+        tray: &mut tray[0..1],
+        sheet: &mut sheet[0..1],
+    };
+    match renew_to_last(&mut lent) {
         Ok(round) => println!(rt; "draw and apply: a note of round {round}")?,
         Err(refusal) => println!(rt; "draw and apply: {refusal}")?,
     }
-    let round = desk.book.round();
+    let round = book.round();
     println!(rt; "round: {round}")?;
-    print_trial(rt, "draw in the last round", try_draw(desk, none, 1))
+    print_trial(
+        rt,
+        "draw in the last round",
+        try_call(&mut Desk { book, tray, sheet }, |desk| {
+            calls::draw(&mut desk.book, &[], &mut desk.sheet[0..1])
+        }),
+    )
+}
+
+// Two desks with the key dealt onto their trays, under two issue numbers.
+fn dealt_twice(plan: Plan) -> Result<(Desk, Desk), Refusal> {
+    Ok((dealt(plan, 10)?, dealt(plan, 11)?))
 }
 
 // Deals for the calls that want a record, and makes them.
 fn print_desks(rt: &HostRuntime, plan: Plan) -> io::Result<()> {
-    let mut home = match dealt(plan, 10, &RANDOM, 6) {
-        Ok(desk) => desk,
-        Err(refusal) => return println!(rt; "{refusal}"),
-    };
-    let mut away = match dealt(plan, 11, &RANDOM, 6) {
-        Ok(desk) => desk,
-        Err(refusal) => return println!(rt; "{refusal}"),
-    };
-    print_calls(rt, &mut home, &mut away)
+    match dealt_twice(plan) {
+        Ok((mut home, mut away)) => print_calls(rt, &mut home, &mut away),
+        Err(refusal) => println!(rt; "{refusal}"),
+    }
 }
 
-// Deals for the last round, and comes to it.
+// Deals onto one place for the last round, and comes to it.
 fn print_last(rt: &HostRuntime, plan: Plan) -> io::Result<()> {
-    let mut desk = match dealt(plan, 12, &MORE[0..0], 1) {
-        Ok(desk) => desk,
-        Err(refusal) => return println!(rt; "{refusal}"),
-    };
-    print_last_round(rt, &mut desk)
+    let mut tray = EMPTY;
+    match deal(plan, 12, &KEY, &[], &mut tray[0..1]) {
+        Ok(book) => print_last_round(rt, book, tray),
+        Err(refusal) => println!(rt; "{refusal}"),
+    }
 }
 
 // Prints every refusal.

@@ -3,7 +3,7 @@ ghost use Rattle.std.specs.Prelude.{◌≡◌, ◌+◌, length, Ok, MatchResult,
 ghost use Rattle.plans.specs.Refusals.{plan_refusal};
 ghost use Rattle.sharing.specs.Calls.{draw, refusal};
 ghost use Rattle.trays.specs.Turns.{DiscardTurns, told_by};
-ghost use Rattle.rehearsal.specs.Rounds.{Asked, Fits, Renewed, TurnedBack, Withdrawn, renewal};
+ghost use Rattle.rehearsal.specs.Rounds.{Asked, Fits, Renews, StillLends, TurnedBack, Withdrawn};
 
 use kinds::element::Element;
 use plans::plan::Plan;
@@ -12,15 +12,20 @@ use trays::note::{Note, Returned};
 use trays::record::Record;
 use trays::refusal::Refusal;
 
+// A record that is lent with its tray and its sheet.
+#[derive(Drop)]
+pub struct Lent<'a, E> {
+    pub book: &'a mut Record,
+    pub tray: &'a mut [E],
+    pub sheet: &'a mut [E],
+}
+
 // The plan with three numbers that make one.
 pub(crate) fn plan_of(harbours: usize, threshold: usize, components: usize) -> Plan
     requires { plan_refusal harbours threshold components ≡ 0 }
     ensures { Asked harbours threshold components result }
 {
-    match Plan::new(harbours, threshold, components) {
-        Ok(plan) => plan,
-        Err(_) => unreachable(),
-    }
+    Plan::new(harbours, threshold, components).unwrap()
 }
 
 // Spends a note by a discard, with a sheet that is as long as the tray.
@@ -28,10 +33,7 @@ pub(crate) fn spend<E: Element>(book: &mut Record, note: Note, sheet: &mut [E]) 
     requires { Fits book.old (length sheet.old) }
     ensures { DiscardTurns E.Element.group E.Element.meaning (told_by book.old) note sheet.old (told_by book.new) sheet.new (Ok result) }
 {
-    match book.discard(note, sheet) {
-        Ok(answer) => answer,
-        Err(_returned) => unreachable(),
-    }
+    book.discard(note, sheet).unwrap()
 }
 
 // Spends a note that came back, and tells why it did.
@@ -49,23 +51,6 @@ pub(crate) fn spend_returned<E: Element>(
     refusal
 }
 
-// Draws and applies; answers the round that the note bore. A note that comes back is spent.
-pub(crate) fn renew<E: Element>(
-    book: &mut Record,
-    random: &[E],
-    tray: &mut [E],
-    sheet: &mut [E],
-) -> Result<u16, Refusal>
-    ensures { MatchResult result (λ bore. Renewed E.Element.group E.Element.meaning (told_by book.old) random.now tray.old sheet.old (told_by book.new) tray.new sheet.new bore) (λ e. TurnedBack (told_by book.old) (told_by book.new) (renewal (told_by book.old) random.now tray.old sheet.old) e) }
-{
-    let note = book.draw(random, sheet)?;
-    let bore = note.round();
-    match book.apply(note, tray, sheet) {
-        Ok(()) => Ok(bore),
-        Err(returned) => Err(spend_returned(book, returned, sheet)),
-    }
-}
-
 // Draws and discards; answers the round that the note bore, and what became of the draw.
 pub(crate) fn withdraw<E: Element>(
     book: &mut Record,
@@ -79,18 +64,29 @@ pub(crate) fn withdraw<E: Element>(
     Ok((bore, spend(book, note, sheet)))
 }
 
-// Renews so many times; the round is then so much further.
-pub(crate) fn renew_times<E: Element>(
-    book: &mut Record,
-    random: &[E],
-    tray: &mut [E],
-    sheet: &mut [E],
-    times: u16,
-) -> Result<(), Refusal>
-    ensures { OnOk result ((told_by book.new).round ≡ (told_by book.old).round + times) }
-{
-    for _ in 0..times {
-        renew(book, random, tray, sheet)?;
+impl<E: Element> Lent<'_, E> {
+    // Draws and applies; answers the round that the note bore. A note that comes back is spent.
+    pub(crate) fn renew(&mut self, random: &[E]) -> Result<u16, Refusal>
+        ensures turns { Renews E.Element.group E.Element.meaning random.now self.old self.new result }
+        ensures lends { StillLends self.old self.new }
+    {
+        let note = self.book.draw(random, self.sheet)?;
+        let bore = note.round();
+        // Kept: what a closure of `map_err` leaves in the record, no proof knows.
+        match self.book.apply(note, self.tray, self.sheet) {
+            Ok(()) => Ok(bore),
+            Err(returned) => Err(spend_returned(self.book, returned, self.sheet)),
+        }
     }
-    Ok(())
+
+    // Renews so many times; the round is then so much further.
+    pub(crate) fn renew_times(&mut self, random: &[E], times: u16) -> Result<(), Refusal>
+        ensures round { OnOk result ((told_by self.new.book.now).round ≡ (told_by self.old.book.now).round + times) }
+        ensures lends { StillLends self.old self.new }
+    {
+        for _ in 0..times {
+            self.renew(random)?;
+        }
+        Ok(())
+    }
 }
