@@ -1,24 +1,12 @@
 -- A card that is loaded and written again. Assumes nothing.
-use Rattle.std.proofs.Common.{◌≡◌, ℕ, Bool, true, false, List, map, length, drop, Ok, vec_items, Decides, Result, Vec, sym, ap, ◌∙◌, subst, inl, inr, arith}
-use Rattle.std.specs.declared.alloc.Global.{Global}
-use Rattle.std.proofs.lemmas.Result.{MatchResult-at_ok}
+use Rattle.std.proofs.Common.{◌≡◌, ℕ, Bool, true, false, List, map, length, drop, vec_items, Decides, sym, ap, ◌∙◌, subst, arith}
 use Rattle.std.proofs.lemmas.Bool.Decides.{nat_tests}
 use Rattle.sharing.specs.Format.{Head, picture}
-use Rattle.pictures.specs.Reading.{Coded, Verdict, codes_in, head_in, head_refusal, said_by, slips_of}
+use Rattle.pictures.specs.Reading.{Coded, Verdict, head_in, slips_of}
 use Rattle.pictures.specs.Writing.{write_refusal}
 use Rattle.pictures.proofs.Bodies.{length_codes}
-use Rattle.pictures.specs.declared.fault.CardFault.{CardFault}
-use Rattle.pictures.specs.declared.head.CardHead.{CardHead}
-use Rattle.cardcheck.specs.Cards.{RefusedBy, SoundAs, Tells, WritesSame}
+use Rattle.cardcheck.specs.Cards.{SoundAs, WritesSame}
 use Rattle.cardcheck.specs.declared.told.Told.{Told}
-
--- What load tells of a place that then has these slips.
-pub sound_as : {C : Type 0} (coded : C → ℕ) (kind width : ℕ) (bytes : List ℕ) (head : CardHead) (slips : Vec C Global) (place : List C) → vec_items slips ≡ place → Verdict (Coded coded) kind width bytes 0 0
-    → said_by kind head ≡ head_in bytes → map coded place ≡ codes_in width bytes → bytes ≡ picture width (said_by kind head) (map coded place)
-    → SoundAs coded kind width bytes (record { head = head; slips = slips })
-sound_as coded kind width bytes head slips place is sound said codes whole =
-    let same = ap (map coded) is in
-    record { sound = sound; head = said; codes = same ∙ codes; whole = whole ∙ ap (picture width (said_by kind head)) (sym same) }
 
 -- What the comparison tells: whether the card can be written, and gives these bytes.
 pub decided : (width : ℕ) (h : Head) (codes given bytes first written shown : List ℕ) (b : Bool)
@@ -31,28 +19,21 @@ decided width h codes given bytes first written shown b same long wrote is tells
     let made : shown ≡ picture width h codes = is ∙ wrote.1 ∙ ap (picture width h) same in
     (λ yes. (free, sym made ∙ tells_apart.0 yes), λ w. tells_apart.1 (made ∙ w.1))
 
--- A sound picture's head and length are not refused.
-free_head : (Code : ℕ → Type 0) (kind width : ℕ) (bytes : List ℕ) → Verdict Code kind width bytes 0 0 → head_refusal kind width bytes ≡ 0
-free_head Code kind width bytes v = elim v [ inl r ↦ absurd (omega (arith, r.0, r.1)) | inr a ↦ a.0 ]
-
--- What opens can be written.
-writable : (kind width : ℕ) (bytes : List ℕ) → head_refusal kind width bytes ≡ 0 → write_refusal width (head_in bytes) (slips_of (head_in bytes)) (length bytes) ≡ 0
-writable kind width bytes free = grind (arith, nat_tests)
+-- A sound picture's head and length are not refused, and what opens can be written.
+writable : (Code : ℕ → Type 0) (kind width : ℕ) (bytes : List ℕ) → Verdict Code kind width bytes 0 0 → write_refusal width (head_in bytes) (slips_of (head_in bytes)) (length bytes) ≡ 0
+writable Code kind width bytes sound = grind (arith, nat_tests)
 
 -- The card of a sound picture, written again, gives its bytes.
 pub writes_same : {C : Type 0} (coded : C → ℕ) (kind width : ℕ) (bytes : List ℕ) (card : Told C) → SoundAs coded kind width bytes card → WritesSame coded kind width bytes card
 writes_same coded kind width bytes card s =
-    let free = writable kind width bytes (free_head (Coded coded) kind width bytes s.sound) in (
+    let free = writable (Coded coded) kind width bytes s.sound in (
       subst (λ h. write_refusal width h (length (map coded (vec_items card.slips))) (length bytes) ≡ 0) (sym s.head)
           (subst (λ n. write_refusal width (head_in bytes) n (length bytes) ≡ 0) (sym (ap length s.codes ∙ length_codes width (slips_of (head_in bytes)) (drop 9 bytes))) free),
       sym s.whole,
     )
 
 -- So it is never found to give other bytes.
-pub never_otherwise : {C : Type 0} (coded : C → ℕ) (kind width : ℕ) (bytes : List ℕ) (t : Result (Told C) CardFault) (card : Told C) (b : Bool) → t ≡ Ok card → Tells coded kind width bytes t
-    → Decides b (WritesSame coded kind width bytes card) → b ≡ false → ⊥
-never_otherwise coded kind width bytes t card b is told decides apart =
-    let sound = MatchResult-at_ok (SoundAs coded kind width bytes) (RefusedBy coded kind width bytes) card is told in
+pub never_otherwise : {C : Type 0} (coded : C → ℕ) (kind width : ℕ) (bytes : List ℕ) (card : Told C) (b : Bool) → SoundAs coded kind width bytes card → Decides b (WritesSame coded kind width bytes card) → b ≡ false → ⊥
+never_otherwise coded kind width bytes card b sound decides apart =
     let yes : b ≡ true = decides.1 (writes_same coded kind width bytes card sound) in
-    let z : ◌≡◌ {A = ℕ} 0 1 = cc in
-    omega arith
+    grind arith

@@ -1,50 +1,39 @@
 // What a picture comes to.
-ghost use Rattle.std.specs.Prelude.{◌≡◌, IfOk, vec_len, Decides};
-ghost use Rattle.cardcheck.specs.Cards.{Finds, Tells, WritesSame};
+ghost use Rattle.std.specs.Prelude.{◌≡◌, IfOk, vec_len, Decides, MatchOption, ◌≢◌};
+ghost use Rattle.cardcheck.specs.Cards.{Finds, WritesSame};
+ghost use Rattle.kinds.specs.Codes.{code_of};
 ghost use Rattle.pictures.specs.Reading.{head_in};
 
-use crate::told::{Found, Told};
+use crate::told::{Told, Unsound};
 use kinds::card::Card;
+use kinds::kind::Kind;
 use pictures::check::check;
-use pictures::fault::CardFault;
 use pictures::load::load;
 use pictures::write::write;
 use std::alloc::{AllocError, Global};
 
-// The kind code in a picture's first byte, and 0 where there is no byte.
-pub fn kind_in(picture: &[u8]) -> u8
-    ensures { result ≡ (head_in picture.now).kind }
+// The kind whose code stands in a picture's first byte, if there is a byte and such a kind.
+pub fn kind_in(picture: &[u8]) -> Option<Kind>
+    ensures { MatchOption result ((kind : Kind) → code_of kind ≢ (head_in picture.now).kind) (λ kind. code_of kind ≡ (head_in picture.now).kind) }
 {
-    match picture.first() {
-        Some(first) => *first % 16,
-        None => 0,
-    }
+    Kind::try_from(*picture.first()? % 16).ok()
 }
 
 // So many elements.
 fn elements<C: Card>(heap: Global, count: usize) -> Result<Vec<C>, AllocError>
     ensures { IfOk result (λ v. vec_len v ≡ count) }
 {
-    let mut place = Vec::new(heap);
-    for _each in 0..count {
-        place.push(C::zero())?;
-    }
-    Ok(place)
+    (0..count).map(|_| C::zero()).collect(heap)
 }
 
 // The card of a picture, or why it is refused.
-fn told<C: Card>(heap: Global, picture: &[u8]) -> Result<Result<Told<C>, CardFault>, AllocError>
-    ensures { IfOk result (λ t. Tells C.Card.coded C.Card.kind C.Card.bits picture.now t) }
+fn told<C: Card>(heap: Global, picture: &[u8]) -> Result<Told<C>, Unsound>
+    ensures { Finds C.Card.coded C.Card.kind C.Card.bits picture.now result }
 {
-    let count = match check::<C>(picture) {
-        Ok(head) => head.plan.card_length(),
-        Err(fault) => return Ok(Err(fault)),
-    };
+    let count = check::<C>(picture)?.plan.card_length();
     let mut slips = elements::<C>(heap, count)?;
-    match load(picture, slips.as_mut_slice()) {
-        Ok(head) => Ok(Ok(Told { head, slips })),
-        Err(fault) => Ok(Err(fault)),
-    }
+    let head = load(picture, slips.as_mut_slice())?;
+    Ok(Told { head, slips })
 }
 
 // Whether the card, written again, gives the same picture.
@@ -58,18 +47,13 @@ fn rewrites<C: Card>(heap: Global, card: &Told<C>, picture: &[u8]) -> Result<boo
     }
 }
 
-// What a picture of this kind comes to.
-pub fn judge<C: Card>(heap: Global, picture: &[u8]) -> Result<Found<C>, AllocError>
-    ensures { IfOk result (λ f. Finds C.Card.coded C.Card.kind C.Card.bits picture.now f) }
+// The card of a picture of this kind, which written again gives the same bytes, or why there is none.
+pub fn judge<C: Card>(heap: Global, picture: &[u8]) -> Result<Told<C>, Unsound>
+    ensures { Finds C.Card.coded C.Card.kind C.Card.bits picture.now result }
 {
-    match told::<C>(heap, picture)? {
-        Err(fault) => Ok(Found::Refused(fault)),
-        Ok(card) => {
-            if rewrites(heap, &card, picture)? {
-                Ok(Found::Sound(card))
-            } else {
-                Ok(Found::Otherwise)
-            }
-        }
+    let card = told::<C>(heap, picture)?;
+    if !rewrites(heap, &card, picture)? {
+        return Err(Unsound::Otherwise);
     }
+    Ok(card)
 }

@@ -1,26 +1,15 @@
 // What a line of the input gives.
 ghost use Rattle.std.specs.Prelude.{◌≡◌, IfOk, Some, None, MatchOption};
-ghost use Rattle.cardcheck.specs.Lines.{bytes_by, bytes_in, dash, passed_over, value_of};
+ghost use Rattle.cardcheck.specs.Lines.{bytes_by, bytes_in, dash, value_of};
 
 use std::alloc::{AllocError, Global};
-
-// Whether a line is empty or a comment.
-pub fn is_passed_over(line: &str) -> bool
-    ensures { result ≡ passed_over line.now }
-{
-    matches!(line.as_bytes(), [] | [b'#', ..])
-}
 
 // The value of a hexadecimal digit.
 fn digit(letter: u8) -> Option<u8>
     ensures { result ≡ value_of letter }
 {
-    match letter {
-        b'0'..=b'9' => Some(letter - b'0'),
-        b'A'..=b'F' => Some(letter - b'A' + 10),
-        b'a'..=b'f' => Some(letter - b'a' + 10),
-        _ => None,
-    }
+    let value = char::from(letter).to_digit(16)?;
+    u8::try_from(value).ok()
 }
 
 // Whether a line is a dash alone, which stands for no bytes.
@@ -36,6 +25,7 @@ fn bytes_by(heap: Global, text: &[u8]) -> Result<Option<Vec<u8>>, AllocError>
 {
     let mut bytes = Vec::new(heap);
     let mut rest = text;
+    // Kept: no chain takes one letter at a space and two at digits.
     loop {
         match rest {
             [] => return Ok(Some(bytes)),

@@ -1,6 +1,6 @@
 // The line that is printed of a picture.
 use crate::judged::judge;
-use crate::told::{Found, Told};
+use crate::told::{Told, Unsound};
 use kinds::card::Card;
 use pictures::fault::CardFault;
 use std::io;
@@ -8,11 +8,10 @@ use std::io;
 // Prints why a picture is refused.
 fn say_refused(rt: &HostRuntime, fault: CardFault) -> io::Result<()> {
     let number = fault.number();
-    if let CardFault::Slip(at) = fault {
-        let place = at.place;
-        return println!(rt; "refused {number} slip {place}");
+    match fault {
+        CardFault::Slip(at) => println!(rt; "refused {number} slip {}", at.place),
+        _ => println!(rt; "refused {number}"),
     }
-    println!(rt; "refused {number}")
 }
 
 // Prints what a sound picture tells.
@@ -34,9 +33,10 @@ fn say_sound<C: Card>(rt: &HostRuntime, kind: &str, card: &Told<C>) -> io::Resul
 
 // Prints what a picture of a kind comes to.
 pub fn say<C: Card>(rt: &HostRuntime, kind: &str, picture: &[u8]) -> io::Result<()> {
-    match judge::<C>(rt.alloc(), picture)? {
-        Found::Sound(card) => say_sound(rt, kind, &card),
-        Found::Refused(fault) => say_refused(rt, fault),
-        Found::Otherwise => println!(rt; "rewritten otherwise"),
+    match judge::<C>(rt.alloc(), picture) {
+        Ok(card) => say_sound(rt, kind, &card),
+        Err(Unsound::Refused(fault)) => say_refused(rt, fault),
+        Err(Unsound::Otherwise) => println!(rt; "rewritten otherwise"),
+        Err(Unsound::NoMemory(error)) => Err(error.into()),
     }
 }

@@ -4,11 +4,8 @@ use Rattle.std.specs.Char.{is_whitespace, is_not_whitespace}
 use Rattle.std.specs.Str.{NoCharPasses, EmptyOrStartsWithPassing}
 use Rattle.planner.specs.Lines.{First, Words, Fewer, More}
 
-pub first_of : (bs text w rest : List ℕ) → bs ≡ text → (gap : List ℕ) × (bs ≡ gap ++ (w ++ rest)) × (0 < length w) × NoCharPasses is_not_whitespace gap × NoCharPasses is_whitespace w × ((more : List ℕ) × EmptyOrStartsWithPassing is_whitespace rest more) → First text w rest
-first_of bs text w rest same cut = record { gap = cut.0; cut = sym same ∙ cut.1; some = cut.2; blank = cut.3; solid = cut.4; ends = cut.5 }
-
-pub no_word : {text rest : List ℕ} → rest ≡ text → NoCharPasses is_not_whitespace rest → Fewer text
-no_word {text} {rest} same blank = ([], (rest, sym same, blank), omega arith)
+pub first_of : {bs text w rest : List ℕ} → bs ≡ text → (gap : List ℕ) × (bs ≡ gap ++ (w ++ rest)) × (0 < length w) × NoCharPasses is_not_whitespace gap × NoCharPasses is_whitespace w × ((more : List ℕ) × EmptyOrStartsWithPassing is_whitespace rest more) → First text w rest
+first_of same cut = record { gap = cut.0; cut = sym same ∙ cut.1; some = cut.2; blank = cut.3; solid = cut.4; ends = cut.5 }
 
 module _ {text a after_a : List ℕ} (one : First text a after_a) where
   pub one_word : NoCharPasses is_not_whitespace after_a → Fewer text

@@ -8,19 +8,12 @@ use Rattle.plans.specs.Refusals.{number_of, group_refusal, mask_refusal, positio
 use Rattle.plans.specs.Shape.{shape_of, group_count, masks_of}
 use Rattle.plans.specs.declared.plan.Plan.{Plan}
 use Rattle.plans.specs.declared.refusal.Refusal.{Refusal}
-use Rattle.plans.specs.declared.refusal.Refusal.TheVariants.{Harbours, Threshold, Components, NoSuchGroup, NotAGroup, NotAMember, PastTheMatrix}
 use Rattle.std.specs.Result.{result_ok}
 use Rattle.std.proofs.lemmas.Bool.Decides.{nat_tests}
 use Rattle.planner.specs.Slips.{Lies}
 
 some_number : (e : Refusal) → 0 < number_of e
-some_number Harbours = omega arith
-some_number Threshold = omega arith
-some_number Components = omega arith
-some_number NoSuchGroup = omega arith
-some_number NotAGroup = omega arith
-some_number NotAMember = omega arith
-some_number PastTheMatrix = omega arith
+some_number e = grind arith
 
 -- A mask that the table gave for a number is the group's.
 pub record Grouped (p : Plan) (g mask : ℕ) : Type 0 where

@@ -1,13 +1,9 @@
 -- What a line of the input asks for. Assumes nothing.
-use Rattle.std.specs.Prelude.{◌≡◌, ℕ, ◌^◌, ◌<◌, Bool, ◌||◌, ◌⊎◌, List, [], ◌∷◌, ◌++◌, length, ◌==◌, slice_index}
+use Rattle.std.specs.Prelude.{◌≡◌, ℕ, ◌^◌, ◌<◌, ◌⊎◌, List, [], ◌∷◌, ◌++◌, length}
 use Rattle.std.specs.Str.Parse.{IsNumeral, without_leading_plus, digits_value}
 use Rattle.std.specs.Char.{is_whitespace, is_not_whitespace}
 use Rattle.std.specs.Str.{NoCharPasses, EmptyOrStartsWithPassing}
 use Rattle.planner.specs.declared.request.Request.{Request}
-
--- A line is passed over where it is empty or begins with #.
-abbrev pub passed_over : List ℕ → Bool
-passed_over line = length line == 0 || slice_index line 0 == 35
 
 -- A text is white space, a word, and a rest that is empty or begins with white space.
 pub record First (text word rest : List ℕ) : Type 0 where

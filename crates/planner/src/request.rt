@@ -1,6 +1,6 @@
 // What a line of the input asks for.
 ghost use Rattle.std.specs.Prelude.{◌≡◌, ◌⊎◌, [], ◌∷◌, MatchOption};
-ghost use Rattle.planner.specs.Lines.{passed_over, written, Asks, Fewer, IsNumber, More, Unclear, Words};
+ghost use Rattle.planner.specs.Lines.{written, Asks, Fewer, IsNumber, More, Unclear, Words};
 
 // The three numbers of a plan, as a line gives them.
 #[derive(Clone, Copy)]
@@ -10,23 +10,14 @@ pub struct Request {
     pub components: usize,
 }
 
-// Whether a line is empty or a comment.
-pub fn is_passed_over(line: &str) -> bool
-    ensures { result ≡ passed_over line.now }
-{
-    matches!(line.as_bytes(), [] | [b'#', ..])
-}
-
 // The words of a line, if there are three.
 fn three_words(line: &str) -> Option<(&str, &str, &str)>
     ensures { MatchOption result (Fewer line.now ⊎ More line.now) (λ w. Words line.now (w.0.now ∷ w.1.now ∷ w.2.now ∷ [])) }
 {
     let mut words = line.split_whitespace();
-    let first = words.next()?;
-    let second = words.next()?;
-    let third = words.next()?;
+    let three = (words.next()?, words.next()?, words.next()?);
     match words.next() {
-        None => Some((first, second, third)),
+        None => Some(three),
         Some(_) => None,
     }
 }
@@ -44,13 +35,10 @@ impl Request {
         ensures { MatchOption result (Unclear line.now) (λ q. Asks line.now q) }
     {
         let (first, second, third) = three_words(line)?;
-        let harbours = number(first)?;
-        let threshold = number(second)?;
-        let components = number(third)?;
         Some(Request {
-            harbours,
-            threshold,
-            components,
+            harbours: number(first)?,
+            threshold: number(second)?,
+            components: number(third)?,
         })
     }
 }

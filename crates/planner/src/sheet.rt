@@ -15,11 +15,8 @@ const SHOWN_ROWS: usize = 24;
 
 // Prints the members of a group, rising.
 fn print_members(rt: &HostRuntime, harbours: usize, mask: u16) -> io::Result<()> {
-    for bit in 0..harbours {
-        let harbour = bit + 1;
-        if contains(mask, harbour) {
-            print!(rt; " {harbour}")?;
-        }
+    for harbour in (1..=harbours).filter(|harbour| contains(mask, *harbour)) {
+        print!(rt; " {harbour}")?;
     }
     println!(rt)
 }
@@ -48,11 +45,9 @@ fn print_sizes(rt: &HostRuntime, plan: &Plan) -> io::Result<()> {
 fn print_card(rt: &HostRuntime, table: &Table, harbour: usize) -> io::Result<()> {
     print!(rt; "card {harbour}")?;
     let mut before = ':';
-    for number in 0..table.masks().len() {
+    for (number, _) in table.masks().iter().enumerate() {
         if let Some(slip) = Slip::of(table, number, harbour) {
-            let place = slip.place;
-            let mark = slip.mark();
-            print!(rt; "{before} group {number} at {place} {mark}")?;
+            print!(rt; "{before} group {number} at {slip}")?;
             before = ',';
         }
     }
@@ -61,8 +56,8 @@ fn print_card(rt: &HostRuntime, table: &Table, harbour: usize) -> io::Result<()>
 
 // Prints the card of each harbour.
 fn print_cards(rt: &HostRuntime, table: &Table, harbours: usize) -> io::Result<()> {
-    for bit in 0..harbours {
-        print_card(rt, table, bit + 1)?;
+    for harbour in 1..=harbours {
+        print_card(rt, table, harbour)?;
     }
     Ok(())
 }
@@ -73,10 +68,7 @@ fn entry_inside(plan: &Plan, row: usize, column: usize) -> u8
     requires column { column < column_count (shape_of plan.now) }
     ensures { result ≡ entry_at (shape_of plan.now) row column }
 {
-    match entry(plan, row, column) {
-        Ok(bit) => bit,
-        Err(_) => unreachable(),
-    }
+    entry(plan, row, column).unwrap()
 }
 
 // Prints a row of the matrix.
@@ -84,6 +76,7 @@ fn print_row(rt: &HostRuntime, plan: &Plan, row: usize) -> io::Result<()>
     requires { row < row_count (shape_of plan.now) }
 {
     print!(rt; "  ")?;
+    // Kept: entries are computed by row and column, and stand in no list.
     for column in 0..column_count(plan) {
         let bit = entry_inside(plan, row, column);
         print!(rt; "{bit}")?;

@@ -4,11 +4,13 @@ ghost use Rattle.plans.specs.Shape.{shape_of};
 ghost use Rattle.planner.specs.Slips.{Absent, Lies};
 
 use plans::table::Table;
+use std::fmt;
 
 // The place in the tray of a group's component 0 on a card, and the sign under which its slips restore the key.
 #[derive(Clone, Copy)]
 pub struct Slip {
     pub place: usize,
+    // Kept: a number by rule, as the table finds it.
     pub sign: i8,
 }
 
@@ -23,10 +25,17 @@ impl Slip {
     }
 
     // The sign as it is printed.
+    // Kept: a clause tells the character, and none can tell what Display writes.
     pub fn mark(self) -> char
         ensures plus { self.sign ≡ pos 1 → result ≡ 43 }
         ensures minus { self.sign ≡ negsuc 0 → result ≡ 45 }
     {
         if self.sign < 0 { '-' } else { '+' }
+    }
+}
+
+impl fmt::Display for Slip {
+    fn fmt<W: fmt::Write>(&self, f: &mut fmt::Formatter<W>) -> fmt::Result {
+        write!(f, "{} {}", self.place, self.mark())
     }
 }

@@ -1,7 +1,0 @@
--- No byte reads as 0. Assumes nothing.
-use Rattle.std.proofs.Common.{rules}
-use Rattle.std.proofs.lemmas.List.{get_or_past}
-use Rattle.cardcheck.proofs.judged.kind_in.Goals as goal
-
-pub returns-in-None : goal.returns-in-None
-returns-in-None c = search (rules, get_or_past)

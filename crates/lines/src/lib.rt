@@ -1,0 +1,45 @@
+// Lines of the input: which are passed over, and each of the others handed to a caller with its number.
+#![tactic(auto)]
+
+ghost use Rattle.std.specs.Prelude.{◌≡◌, OnOk, IfSome};
+ghost use Rattle.lines.specs.Lines.{passed_over, AnswersText, Shown};
+
+use std::alloc::Global;
+use std::io::{BufRead, BufReader};
+use std::{io, iter};
+
+// Whether a line is empty or a comment.
+pub fn is_passed_over(line: &str) -> bool
+    ensures { result ≡ passed_over line.now }
+{
+    matches!(line.as_bytes(), [] | [b'#', ..])
+}
+
+// Hands each line of a text that is not passed over to the caller, with its number from 1. A number that cannot rise stays.
+pub fn answer_text<B: BufRead + Drop, F: FnMut(u64, &str) -> io::Result<()>>(
+    heap: Global,
+    text: B,
+    mut answer: F,
+) -> io::Result<()>
+    requires { F.IsAlwaysCallable answer }
+    ensures { OnOk result (IfSome (B.remaining text) (λ bytes. AnswersText (Shown F.step) answer bytes)) }
+{
+    let numbers = (1u64..).chain(iter::repeat(u64::MAX));
+    for (number, line) in numbers.zip(text.lines(heap)) {
+        let line = line?;
+        if !is_passed_over(line.as_str()) {
+            answer(number, line.as_str())?;
+        }
+    }
+    Ok(())
+}
+
+// Hands each line of the input that is not passed over to the caller, with its number from 1.
+pub fn answer_lines<F: FnMut(u64, &str) -> io::Result<()>>(
+    rt: &HostRuntime,
+    answer: F,
+) -> io::Result<()>
+    requires { F.IsAlwaysCallable answer }
+{
+    answer_text(rt.alloc(), BufReader::new(rt.alloc(), rt.stdin())?, answer)
+}
