@@ -1,16 +1,17 @@
 -- The verdict on a picture of any of the three kinds, by the numbers that are codes of the kind. Assumes nothing.
-use Rattle.std.proofs.Common.{◌≡◌, ℕ, ◌^◌, ◌<◌, ◌≤◌, ◌↔◌, List, get_or, take, Ok, Err, Result, sym, ◌∙◌, subst, inl, inr, mod-eq_of_lt, arith, MatchResult}
+use Rattle.std.proofs.Common.{◌≡◌, ℕ, ◌^◌, ◌<◌, ◌≤◌, ◌↔◌, List, get_or, take, Option, None, Some, sym, ap, ◌∙◌, subst, inl, inr, mod-eq_of_lt, arith}
 use Rattle.std.proofs.lemmas.List.Elements.{All-weaker}
 use Rattle.std.proofs.lemmas.Bool.Decides.{nat_tests}
+use Rattle.std.specs.Option.{unwrap_or}
+use Rattle.kinds.specs.Codes.{code_of}
 use Rattle.kinds.specs.Kinds.{byte, dial, word}
-use Rattle.kinds.specs.declared.dial_number.DialNumber.{DialNumber}
-use Rattle.kinds.specs.declared.key_word.KeyWord.{KeyWord}
-use Rattle.kinds.specs.declared.mask_byte.MaskByte.{MaskByte}
-use Rattle.pictures.specs.Faults.{number_of, slip_of}
+use Rattle.kinds.specs.declared.dial_number.DialNumber.{DialNumber as DialNumberCard}
+use Rattle.kinds.specs.declared.key_word.KeyWord.{KeyWord as KeyWordCard}
+use Rattle.kinds.specs.declared.kind.Kind.{Kind}
+use Rattle.kinds.specs.declared.kind.Kind.TheVariants.{KeyWord, MaskByte, DialNumber}
+use Rattle.kinds.specs.declared.mask_byte.MaskByte.{MaskByte as MaskByteCard}
 use Rattle.pictures.specs.FromC.{Judged, JudgedAs, unknown_kind}
-use Rattle.pictures.specs.Reading.{Checked, Coded, ReadThrough, Verdict, codes_in, head_in, head_refusal, rest_in}
-use Rattle.pictures.specs.declared.fault.CardFault.{CardFault}
-use Rattle.pictures.specs.declared.head.CardHead.{CardHead}
+use Rattle.pictures.specs.Reading.{Coded, Judges, NamesKind, ReadThrough, Verdict, codes_in, head_in, head_refusal, rest_in}
 
 -- Where two descriptions of the codes agree, so do the verdicts.
 module _ (Code Code' : ℕ → Type 0) (same : (c : ℕ) → Code c ↔ Code' c) where
@@ -23,25 +24,21 @@ module _ (Code Code' : ℕ → Type 0) (same : (c : ℕ) → Code c ↔ Code' c)
   verdict_like : (kind width : ℕ) (bytes : List ℕ) (n slip : ℕ) → Verdict Code kind width bytes n slip → Verdict Code' kind width bytes n slip
   verdict_like kind width bytes n slip v = elim v [ inl r ↦ inl r | inr a ↦ inr (a.0, read_like (codes_in width bytes) (rest_in width bytes) n slip a.1) ]
 
--- What check and answer say of a kind, where its codes are the numbers below a limit.
-judged_as : {C : Type 0} (coded : C → ℕ) (kind width limit : ℕ) (bytes : List ℕ) (checked : Result CardHead CardFault) (n : ℕ) → ((c : ℕ) → Coded coded c ↔ (c < limit))
-    → Checked coded kind width bytes checked → MatchResult checked (λ _. n ≡ 0) (λ f. n ≡ number_of f) → JudgedAs kind width limit bytes n
-judged_as coded kind width limit bytes (Ok h) n same is answer =
-    (0, subst (λ m. Verdict (λ c. c < limit) kind width bytes m 0) (sym answer) (verdict_like (Coded coded) (λ c. c < limit) same kind width bytes 0 0 is.0))
-judged_as coded kind width limit bytes (Err f) n same is answer =
-    (slip_of f, subst (λ m. Verdict (λ c. c < limit) kind width bytes m (slip_of f)) (sym answer) (verdict_like (Coded coded) (λ c. c < limit) same kind width bytes (number_of f) (slip_of f) is))
+-- The verdict on a picture of a kind whose codes are the numbers below a limit.
+judged_as : {C : Type 0} (coded : C → ℕ) (kind width limit : ℕ) (bytes : List ℕ) (n : ℕ) → ((c : ℕ) → Coded coded c ↔ (c < limit)) → Judges coded kind width bytes n → JudgedAs kind width limit bytes n
+judged_as coded kind width limit bytes n same j = (j.0, verdict_like (Coded coded) (λ c. c < limit) same kind width bytes n j.0 j.1)
 
 -- The codes of each kind.
 codes_below : {C : Type 0} (coded : C → ℕ) (limit : ℕ) (made : ℕ → C) → ((e : C) → coded e < limit) → ((c : ℕ) → c < limit → coded (made c) ≡ c) → (c : ℕ) → Coded coded c ↔ (c < limit)
 codes_below coded limit made below back c = (λ h. subst (λ x. x < limit) h.1 (below h.0), λ lt. (made c, back c lt))
 
-abbrev pub word_code : KeyWord → ℕ
+abbrev pub word_code : KeyWordCard → ℕ
 word_code e = (word e.value).number
 
-abbrev pub mask_code : MaskByte → ℕ
+abbrev pub mask_code : MaskByteCard → ℕ
 mask_code e = (byte e.value).number
 
-abbrev pub dial_code : DialNumber → ℕ
+abbrev pub dial_code : DialNumberCard → ℕ
 dial_code e = (dial e.held).number
 
 word_codes : (c : ℕ) → Coded word_code c ↔ (c < 2 ^ 32)
@@ -60,18 +57,33 @@ unknown bytes kind width other = grind (arith, nat_tests)
 some_refusal : (bytes : List ℕ) → 1 ≤ unknown_kind bytes
 some_refusal bytes = grind (arith, nat_tests)
 
-module _ (bytes : List ℕ) (checked : Result CardHead CardFault) (n : ℕ) (answer : MatchResult checked (λ _. n ≡ 0) (λ f. n ≡ number_of f)) where
-  pub judged_mask : (head_in bytes).kind ≡ 2 → Checked mask_code 2 8 bytes checked → Judged bytes n
-  judged_mask is check = record { word = λ e. absurd (omega arith); mask = λ _. judged_as mask_code 2 8 (2 ^ 8) bytes checked n mask_codes check answer; dial = λ e. absurd (omega arith); other = λ _ other _. absurd (other is) }
+-- The check of the kind that the first byte names is the verdict, and that of key words where it names none.
+module _ (bytes : List ℕ) (n : ℕ) where
+  pub judged_mask : (named : Option Kind) → NamesKind bytes named → unwrap_or named KeyWord ≡ MaskByte → Judges mask_code 2 8 bytes n → Judged bytes n
+  judged_mask (Some k) names is j =
+      let two : (head_in bytes).kind ≡ 2 = sym names ∙ ap code_of is in
+      record { word = λ e. absurd (omega arith); mask = λ _. judged_as mask_code 2 8 (2 ^ 8) bytes n mask_codes j; dial = λ e. absurd (omega arith); other = λ _ other _. absurd (other two) }
+  judged_mask None names is j = absurd (cc)
 
-  pub judged_dial : (head_in bytes).kind ≡ 3 → Checked dial_code 3 14 bytes checked → Judged bytes n
-  judged_dial is check = record { word = λ e. absurd (omega arith); mask = λ e. absurd (omega arith); dial = λ _. judged_as dial_code 3 14 10000 bytes checked n dial_codes check answer; other = λ _ _ other. absurd (other is) }
+  pub judged_dial : (named : Option Kind) → NamesKind bytes named → unwrap_or named KeyWord ≡ DialNumber → Judges dial_code 3 14 bytes n → Judged bytes n
+  judged_dial (Some k) names is j =
+      let three : (head_in bytes).kind ≡ 3 = sym names ∙ ap code_of is in
+      record { word = λ e. absurd (omega arith); mask = λ e. absurd (omega arith); dial = λ _. judged_as dial_code 3 14 10000 bytes n dial_codes j; other = λ _ _ other. absurd (other three) }
+  judged_dial None names is j = absurd (cc)
 
-  pub judged_rest : ((head_in bytes).kind ≡ 2 → ⊥) → ((head_in bytes).kind ≡ 3 → ⊥) → Checked word_code 1 32 bytes checked → Judged bytes n
-  judged_rest no_mask no_dial check = record { word = λ _. j; mask = λ e. absurd (no_mask e); dial = λ e. absurd (no_dial e); other = λ other _ _. refused other }
+  -- neither a mask byte nor a dial number is named
+  no_other : (named : Option Kind) → NamesKind bytes named → unwrap_or named KeyWord ≡ KeyWord → ((head_in bytes).kind ≡ 2 → ⊥) × ((head_in bytes).kind ≡ 3 → ⊥)
+  no_other (Some k) names is =
+      let one : (head_in bytes).kind ≡ 1 = sym names ∙ ap code_of is in (λ e. omega arith, λ e. omega arith)
+  no_other None names is = (λ e. names MaskByte (sym e), λ e. names DialNumber (sym e))
+
+  pub judged_word : (named : Option Kind) → NamesKind bytes named → unwrap_or named KeyWord ≡ KeyWord → Judges word_code 1 32 bytes n → Judged bytes n
+  judged_word named names is j =
+      let others = no_other named names is in
+      record { word = λ _. as_word; mask = λ e. absurd (others.0 e); dial = λ e. absurd (others.1 e); other = λ other _ _. refused other }
     where
-      j : JudgedAs 1 32 (2 ^ 32) bytes n
-      j = judged_as word_code 1 32 (2 ^ 32) bytes checked n word_codes check answer
+      as_word : JudgedAs 1 32 (2 ^ 32) bytes n
+      as_word = judged_as word_code 1 32 (2 ^ 32) bytes n word_codes j
 
       refused : ((head_in bytes).kind ≡ 1 → ⊥) → n ≡ unknown_kind bytes
       refused other = elim j.1 [ inl r ↦ r.1 ∙ unknown bytes 1 32 other | inr a ↦ absurd (omega (arith, a.0, unknown bytes 1 32 other, some_refusal bytes)) ]

@@ -3,6 +3,7 @@ use Rattle.std.proofs.Common.{◌≡◌, ℕ, ◌-◌, ◌≤◌, List, map, len
 use Rattle.std.specs.Int.Digits.{AllBelowBase}
 use Rattle.std.proofs.lemmas.List.{take_rest}
 use Rattle.std.proofs.lemmas.Bool.Decides.{nat_tests}
+use Rattle.plans.specs.Shape.{card_length, shape_of}
 use Rattle.plans.proofs.Bounds.{card_bound}
 use Rattle.sharing.specs.Format.{body_length, picture}
 use Rattle.pictures.specs.Reading.{Coded, ReadThrough, Verdict, codes_in, codes_of, head_in, head_refusal, rest_in, rest_of, said_by, slips_of}
@@ -24,9 +25,9 @@ pub record Opens (kind width : ℕ) (bytes : List ℕ) (h : CardHead) (slips : �
   pub said : said_by kind h ≡ head_in bytes
   pub counted : slips ≡ slips_of (head_in bytes)
 
--- What open answers, at the kind's own code and width.
-pub opens : {bytes : List ℕ} {h : CardHead} {slips k w kind width : ℕ} → k ≡ kind → w ≡ width → (head_refusal k w bytes ≡ 0) × (said_by k h ≡ head_in bytes) × (slips ≡ slips_of (head_in bytes)) → Opens kind width bytes h slips
-opens {bytes} {h} {slips} kinds widths o = subst₂ (λ a b. Opens a b bytes h slips) kinds widths (record { sound = o.0; said = o.1; counted = o.2 })
+-- What open answers, at the kind's own code and width, and how many slips the plan of its head counts.
+pub opens : (bytes : List ℕ) (h : CardHead) {slips k w kind width : ℕ} → k ≡ kind → w ≡ width → (head_refusal k w bytes ≡ 0) × (said_by k h ≡ head_in bytes) → slips ≡ card_length (shape_of h.plan) → Opens kind width bytes h slips
+opens bytes h {slips} kinds widths o counted = subst₂ (λ a b. Opens a b bytes h slips) kinds widths (record { sound = o.0; said = o.1; counted = counted ∙ ap slips_of o.1 })
 
 module _ {kind width : ℕ} {bytes : List ℕ} {h : CardHead} {slips : ℕ} (o : Opens kind width bytes h slips) where
   pub few_slips : slips ≤ 2016

@@ -1,10 +1,9 @@
 -- Which refusal a card meets on the way to its place, and the picture once head and body stand there. Assumes nothing.
-use Rattle.std.proofs.Common.{◌≡◌, ℕ, ◌+◌, ◌-◌, ◌≤◌, List, ◌++◌, map, length, take, drop, refl, ap, ◌∙◌, ap₂, arith}
-use borrow.Rule.Slice.PartMut.{put_mid}
+use Rattle.std.proofs.Common.{◌≡◌, ℕ, ◌+◌, ◌≤◌, List, map, length, ◌∙◌, ap₂, arith}
 use Rattle.std.proofs.lemmas.Nat.{mul-le}
-use Rattle.std.proofs.lemmas.List.{append-nil, drop_all, length-append, length-drop, length-map, take_at, take_rest}
+use Rattle.std.proofs.lemmas.List.{length-map}
 use Rattle.std.proofs.lemmas.Bool.Decides.{nat_tests}
-use Rattle.sharing.specs.Format.{Head, body_length, head_bytes}
+use Rattle.sharing.specs.Format.{Head, body_length}
 use Rattle.pictures.specs.Reading.{slips_of}
 use Rattle.pictures.specs.Writing.{write_refusal}
 
@@ -20,33 +19,11 @@ module _ {C : Type 0} (coded : C → ℕ) (width : ℕ) (h : Head) (slips : List
   codes_many : length (map coded slips) ≡ length slips
   codes_many = length-map slips coded
 
-  pub refuses_slips : (length slips ≡ count → ⊥) → 19 ≡ write_refusal width h (length (map coded slips)) place
-  refuses_slips not_all = let many = codes_many in grind (arith, nat_tests)
-
   module _ (width' bytes : ℕ) (same : width' ≡ width) (body : bytes ≡ body_length width' count) (all : length slips ≡ count) where
     body_is : bytes ≡ body_length width (slips_of h)
     body_is = body_same width width' bytes count (slips_of h) same card body
-
-    pub refuses_place : (place ≡ 9 + bytes → ⊥) → 18 ≡ write_refusal width h (length (map coded slips)) place
-    refuses_place not_long =
-        let many = codes_many in
-        let is = body_is in grind (arith, nat_tests)
 
     pub refuses_none : place ≡ 9 + bytes → write_refusal width h (length (map coded slips)) place ≡ 0
     refuses_none long =
         let many = codes_many in
         let is = body_is in grind (arith, nat_tests)
-
-module _ (h : Head) (before after : List ℕ) (long : 9 ≤ length before) (head : after ≡ head_bytes h ++ drop 9 before) where
-  after_long : length after ≡ length before
-  after_long = omega (arith, ap length head, length-append (head_bytes h) (drop 9 before), length-drop 9 before)
-
-  -- the part behind the head
-  pub part_long : length (take (length after - 9) (drop 9 after)) + 9 ≡ length before
-  part_long = omega (arith, ap length (take_rest after 9), length-drop 9 after, after_long)
-
-  -- and the picture, once the body is there
-  pub placed : (body : List ℕ) → put_mid 9 (length after - 9) after body ≡ head_bytes h ++ body
-  placed body =
-      ap₂ (λ front rest. front ++ (body ++ rest)) (ap (take 9) head ∙ take_at (head_bytes h) (drop 9 before) 9 refl) (drop_all (length after - 9) (drop 9 after) (omega (arith, length-drop 9 after)))
-      ∙ ap (λ xs. head_bytes h ++ xs) (append-nil body)

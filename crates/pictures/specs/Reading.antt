@@ -1,6 +1,8 @@
 -- What a picture says, by its bytes, and what check and load answer. Assumes nothing.
-use Rattle.std.specs.Prelude.{◌≡◌, ℕ, ◌+◌, ◌-◌, ◌*◌, ◌/◌, ◌%◌, ◌^◌, ◌<◌, ◌≤◌, Bool, cond, not, ◌||◌, ◌⊎◌, List, map, length, take, drop, All, Result, MatchResult, ◌==◌, ◌≢◌, nat_lt, slice_index}
+use Rattle.std.specs.Prelude.{◌≡◌, ℕ, ◌+◌, ◌-◌, ◌*◌, ◌/◌, ◌%◌, ◌^◌, ◌<◌, ◌≤◌, Bool, cond, not, ◌||◌, ◌⊎◌, List, map, length, take, drop, All, Option, Result, MatchOption, MatchResult, ◌==◌, ◌≢◌, nat_lt, slice_index}
 use Rattle.std.specs.Int.Digits.{number_from_digits}
+use Rattle.kinds.specs.Codes.{code_of}
+use Rattle.kinds.specs.declared.kind.Kind.{Kind}
 use Rattle.plans.specs.Binomial.{choose}
 use Rattle.plans.specs.Refusals.{outside}
 use Rattle.sharing.specs.Format.{Head, body_length, digits, filling, picture}
@@ -16,6 +18,10 @@ format_in bytes = slice_index bytes 0 / 16
 abbrev pub head_in : List ℕ → Head
 head_in bytes =
     record { kind = slice_index bytes 0 % 16; harbours = slice_index bytes 1 / 16; threshold = slice_index bytes 1 % 16; harbour = slice_index bytes 2 / 16; components = slice_index bytes 2 % 16; issue = number_from_digits 256 (take 4 (drop 3 bytes)); round = number_from_digits 256 (take 2 (drop 7 bytes)) }
+
+-- The known kind that the first byte names, where it names one.
+abbrev pub NamesKind : List ℕ → Option Kind → Type 0
+NamesKind bytes r = MatchOption r ((kind : Kind) → code_of kind ≢ (head_in bytes).kind) (λ kind. code_of kind ≡ (head_in bytes).kind)
 
 -- How many slips the card of a head has.
 abbrev pub slips_of : Head → ℕ
@@ -70,6 +76,10 @@ Verdict Code kind width bytes n slip =
 -- The numbers that are codes of elements.
 abbrev pub Coded : {C : Type 0} → (C → ℕ) → ℕ → Type 0
 Coded {C} coded n = (e : C) × (coded e ≡ n)
+
+-- The number of the refusal, and 0 for a sound picture.
+abbrev pub Judges : {C : Type 0} → (C → ℕ) → ℕ → ℕ → List ℕ → ℕ → Type 0
+Judges coded kind width bytes n = (slip : ℕ) × Verdict (Coded coded) kind width bytes n slip
 
 -- What a head of the program says, for a kind.
 abbrev pub said_by : ℕ → CardHead → Head

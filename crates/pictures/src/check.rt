@@ -1,10 +1,9 @@
 ghost use Rattle.std.specs.Prelude.{◌≡◌, ◌≤◌, length, MatchResult};
 ghost use Rattle.sharing.specs.Format.{body_length};
 ghost use Rattle.pictures.specs.Faults.{number_of, slip_of};
-ghost use Rattle.pictures.specs.Reading.{Checked, Coded, ReadThrough, codes_of, rest_of};
+ghost use Rattle.pictures.specs.Reading.{Checked, Coded, Judges, ReadThrough, codes_of, rest_of};
 
 use crate::fault::CardFault;
-use crate::fault::numbers::placed_at;
 use crate::head::CardHead;
 use crate::open::open;
 use crate::reader::BitReader;
@@ -17,11 +16,9 @@ pub(crate) fn check_body<C: Card>(body: &[u8], slips: usize) -> Result<(), CardF
         (λ _. ReadThrough (Coded C.Card.coded) (codes_of C.Card.bits slips body.now) (rest_of C.Card.bits slips body.now) 0 0)
         (λ f. ReadThrough (Coded C.Card.coded) (codes_of C.Card.bits slips body.now) (rest_of C.Card.bits slips body.now) (number_of f) (slip_of f)) }
 {
-    let width = C::width();
-    let mut reader = BitReader::new();
+    let mut reader = BitReader::new(body, C::width());
     for slip in 0..slips {
-        let code = reader.next(body, width);
-        placed_at(C::from_code(code), slip)?;
+        reader.element::<C>(slip)?;
     }
     if reader.held() != 0 {
         return Err(CardFault::Filling);
@@ -33,7 +30,17 @@ pub(crate) fn check_body<C: Card>(body: &[u8], slips: usize) -> Result<(), CardF
 pub fn check<C: Card>(picture: &[u8]) -> Result<CardHead, CardFault>
     ensures { Checked C.Card.coded C.Card.kind C.Card.bits picture.now result }
 {
-    let opened = open(picture, C::kind_code(), C::width())?;
-    check_body::<C>(&picture[9..], opened.slips)?;
-    Ok(opened.head)
+    let head = open(picture, C::kind_code(), C::width())?;
+    check_body::<C>(&picture[9..], head.plan.card_length())?;
+    Ok(head)
+}
+
+// 0 for a sound picture of a card of this kind, otherwise the number of its fault.
+pub fn refusal<C: Card>(picture: &[u8]) -> u32
+    ensures { Judges C.Card.coded C.Card.kind C.Card.bits picture.now result }
+{
+    match check::<C>(picture) {
+        Ok(_) => 0,
+        Err(fault) => u32::from(fault.number()),
+    }
 }

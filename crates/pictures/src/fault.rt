@@ -1,4 +1,5 @@
 use kinds::card::ElementFault;
+use thiserror::Error;
 
 // A fault of the layer below, whole, and the place at which it was met.
 #[derive(Clone, Copy, PartialEq, Eq, Debug)]
@@ -8,36 +9,35 @@ pub struct At<F> {
 }
 
 // Why a picture is turned away, or not loaded.
-#[derive(Clone, Copy, PartialEq, Eq, Debug)]
+#[derive(Clone, Copy, PartialEq, Eq, Debug, Error)]
 pub enum CardFault {
-    // There are fewer than nine bytes.
+    #[error("refused {}: there are fewer than nine bytes", self.number())]
     TooShort,
-    // The format is not 1.
+    #[error("refused {}: the format is not 1", self.number())]
     Format,
-    // The kind code is another kind's.
+    #[error("refused {}: the kind code is another kind's", self.number())]
     Kind,
-    // Harbours, threshold, components or harbour are outside their ranges.
+    #[error("refused {}: harbours, threshold, components or harbour are out of range", self.number())]
     Ranges,
-    // The length is not that of such a card's picture.
+    #[error("refused {}: the length is not that of such a card's picture", self.number())]
     Length,
-    // A slip's code is no element's.
+    #[error("refused {} at slip {}: {}", self.number(), .0.place, .0.fault)]
     Slip(At<ElementFault>),
-    // A bit behind the codes is not 0.
+    #[error("refused {}: a bit behind the codes is not 0", self.number())]
     Filling,
-    // The place to load into has not as many elements as the card.
+    #[error("refused {}: the place has not as many elements as the card", self.number())]
     Place,
 }
 
 // Why a picture is not written.
-#[derive(Clone, Copy, PartialEq, Eq, Debug)]
+#[derive(Clone, Copy, PartialEq, Eq, Debug, Error)]
 pub enum WriteFault {
-    // The harbour is 0 or above the number of harbours.
-    Harbour,
-    // There are not as many slips as on a card of the plan.
-    Slips,
-    // The place is not as long as the picture.
-    Place,
+    #[error("refused {}: there is no such harbour", self.number())]
+    Harbour = 15,
+    #[error("refused {}: there are not as many slips as on a card of the plan", self.number())]
+    Slips = 19,
+    #[error("refused {}: the place is not as long as the picture", self.number())]
+    Place = 18,
 }
 
 pub mod numbers;
-pub mod words;

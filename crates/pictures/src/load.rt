@@ -4,7 +4,6 @@ ghost use Rattle.pictures.specs.Reading.{Coded, Loaded, codes_of};
 
 use crate::check::check_body;
 use crate::fault::CardFault;
-use crate::fault::numbers::placed_at;
 use crate::head::CardHead;
 use crate::open::open;
 use crate::reader::BitReader;
@@ -17,11 +16,9 @@ fn load_body<C: Card>(body: &[u8], place: &mut [C]) -> Result<(), CardFault>
         (λ _. map C.Card.coded place.new ≡ codes_of C.Card.bits (length place.old) body.now)
         (λ _. All (Coded C.Card.coded) (codes_of C.Card.bits (length place.old) body.now) → ⊥) }
 {
-    let width = C::width();
-    let mut reader = BitReader::new();
-    for slip in 0..place.len() {
-        let code = reader.next(body, width);
-        place[slip] = placed_at(C::from_code(code), slip)?;
+    let mut reader = BitReader::new(body, C::width());
+    for (slip, element) in place.iter_mut().enumerate() {
+        *element = reader.element(slip)?;
     }
     Ok(())
 }
@@ -30,12 +27,13 @@ fn load_body<C: Card>(body: &[u8], place: &mut [C]) -> Result<(), CardFault>
 pub fn load<C: Card>(picture: &[u8], place: &mut [C]) -> Result<CardHead, CardFault>
     ensures { Loaded C.Card.coded C.Card.kind C.Card.bits picture.now place.old place.new result }
 {
-    let opened = open(picture, C::kind_code(), C::width())?;
+    let head = open(picture, C::kind_code(), C::width())?;
+    let slips = head.plan.card_length();
     let body = &picture[9..];
-    check_body::<C>(body, opened.slips)?;
-    if place.len() != opened.slips {
+    check_body::<C>(body, slips)?;
+    if place.len() != slips {
         return Err(CardFault::Place);
     }
     load_body(body, place)?;
-    Ok(opened.head)
+    Ok(head)
 }

@@ -1,20 +1,13 @@
 ghost use Rattle.std.specs.Prelude.{◌≡◌, ◌/◌, ◌%◌, ◌≤◌, true, false, MatchResult};
 ghost use Rattle.plans.specs.Shape.{shape_of};
 ghost use Rattle.pictures.specs.Faults.{number_of, slip_of};
-ghost use Rattle.pictures.specs.Reading.{head_in, head_refusal, said_by, slips_of, unfit};
+ghost use Rattle.pictures.specs.Reading.{head_in, head_refusal, said_by, unfit};
 ghost use Rattle.pictures.specs.declared.fault.CardFault.TheVariants.{Ranges};
 
 use crate::fault::CardFault;
 use crate::head::CardHead;
 use crate::length::body_length;
 use plans::plan::Plan;
-
-// What a picture with a right head and a right length says: its head, and how many slips follow.
-#[derive(Clone, Copy)]
-pub(crate) struct Opened {
-    pub(crate) head: CardHead,
-    pub(crate) slips: usize,
-}
 
 // The plan and the harbour that the second and the third byte tell.
 fn plan_and_harbour(second: u8, third: u8) -> Result<(Plan, usize), CardFault>
@@ -36,11 +29,11 @@ fn plan_and_harbour(second: u8, third: u8) -> Result<(Plan, usize), CardFault>
     Ok((plan, harbour))
 }
 
-// Opens a picture of this kind and width: the head is read, and the length is that of such a card.
-pub(crate) fn open(picture: &[u8], kind: u8, width: u32) -> Result<Opened, CardFault>
+// The head of a picture of this kind and width, whose length is that of such a card's picture.
+pub(crate) fn open(picture: &[u8], kind: u8, width: u32) -> Result<CardHead, CardFault>
     requires { width ≤ 32 }
     ensures { MatchResult result
-        (λ o. (head_refusal kind width picture.now ≡ 0) × (said_by kind o.head ≡ head_in picture.now) × (o.slips ≡ slips_of (head_in picture.now)))
+        (λ h. (head_refusal kind width picture.now ≡ 0) × (said_by kind h ≡ head_in picture.now))
         (λ f. (1 ≤ head_refusal kind width picture.now) × (number_of f ≡ head_refusal kind width picture.now) × (slip_of f ≡ 0)) }
 {
     let [
@@ -65,15 +58,13 @@ pub(crate) fn open(picture: &[u8], kind: u8, width: u32) -> Result<Opened, CardF
         return Err(CardFault::Kind);
     }
     let (plan, harbour) = plan_and_harbour(*second, *third)?;
-    let slips = plan.card_length();
-    if body.len() != body_length(width, slips) {
+    if body.len() != body_length(width, plan.card_length()) {
         return Err(CardFault::Length);
     }
-    let head = CardHead {
+    Ok(CardHead {
         plan,
         harbour,
         issue: u32::from_be_bytes([*issue_1, *issue_2, *issue_3, *issue_4]),
         round: u16::from_be_bytes([*round_1, *round_2]),
-    };
-    Ok(Opened { head, slips })
+    })
 }

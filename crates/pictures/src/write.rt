@@ -1,4 +1,4 @@
-ghost use Rattle.std.specs.Prelude.{◌≡◌, ◌≤◌, ◌++◌, map, length, drop};
+ghost use Rattle.std.specs.Prelude.{◌≡◌, ◌≤◌, map, length};
 ghost use Rattle.sharing.specs.Format.{body_bytes, body_length, head_bytes};
 ghost use Rattle.pictures.specs.Reading.{said_by};
 ghost use Rattle.pictures.specs.Writing.{BodyIsBits, OneToOne, ReadsBack, Written};
@@ -9,22 +9,24 @@ use crate::length::body_length;
 use crate::writer::BitWriter;
 use kinds::card::Card;
 
-// Writes the nine bytes of the head.
-fn write_head(head: &CardHead, kind: u8, place: &mut [u8])
-    requires { (9 ≤ length place.old) × (kind ≤ 15) × (head.now.harbour ≤ 10) }
-    ensures { place.new ≡ head_bytes (said_by kind head.now) ++ drop 9 place.old }
+// The nine bytes of the head.
+fn head_in_bytes(head: &CardHead, kind: u8) -> [u8; 9]
+    requires { (kind ≤ 15) × (head.now.harbour ≤ 10) }
+    ensures { result ≡ head_bytes (said_by kind head.now) }
 {
     let [issue_1, issue_2, issue_3, issue_4] = head.issue.to_be_bytes();
     let [round_1, round_2] = head.round.to_be_bytes();
-    place[0] = 16 + kind;
-    place[1] = (head.plan.harbours() * 16 + head.plan.threshold()) as u8;
-    place[2] = (head.harbour * 16 + head.plan.components()) as u8;
-    place[3] = issue_1;
-    place[4] = issue_2;
-    place[5] = issue_3;
-    place[6] = issue_4;
-    place[7] = round_1;
-    place[8] = round_2;
+    [
+        16 + kind,
+        (head.plan.harbours() * 16 + head.plan.threshold()) as u8,
+        (head.harbour * 16 + head.plan.components()) as u8,
+        issue_1,
+        issue_2,
+        issue_3,
+        issue_4,
+        round_1,
+        round_2,
+    ]
 }
 
 // Writes the codes, and then 0 bits to the end of the byte.
@@ -32,12 +34,11 @@ fn write_body<C: Card>(slips: &[C], body: &mut [u8])
     requires { (length slips.now ≤ 2016) × (length body.old ≡ body_length C.Card.bits (length slips.now)) }
     ensures { body.new ≡ body_bytes C.Card.bits (map C.Card.coded slips.now) }
 {
-    let width = C::width();
-    let mut writer = BitWriter::new();
+    let mut writer = BitWriter::new(body, C::width());
     for slip in slips {
-        writer.push(body, slip.code(), width);
+        writer.push(slip.code());
     }
-    writer.finish(body);
+    writer.finish();
 }
 
 // Pictures and cards answer to each other, one to one.
@@ -67,7 +68,8 @@ pub fn write<C: Card>(head: &CardHead, slips: &[C], place: &mut [u8]) -> Result<
     if place.len() != 9 + body_length(C::width(), count) {
         return Err(WriteFault::Place);
     }
-    write_head(head, C::kind_code(), place);
-    write_body(slips, &mut place[9..]);
+    let (front, body) = place.split_at_mut(9);
+    front.copy_from_slice(&head_in_bytes(head, C::kind_code()));
+    write_body(slips, body);
     Ok(())
 }

@@ -130,9 +130,9 @@ module _ (p : Plan) where
       → length (block_of (k * (u - 1)) g random) ≡ k * (u - 1)
   own_long g k u random low ks us ls = part_long (k * (u - 1)) g random (own_room (g + 1) k u (length random) (omega arith) ks us ls)
 
-  pub own_whole : {X : Type 0} (g k u : ℕ) (random own : List X) → g < group_count (shape_of p) → k ≡ p.components → u ≡ p.threshold → length random ≡ random_count (scheme_of p)
-      → own ≡ block_of (k * (u - 1)) g random → length own % k ≡ 0
-  own_whole g k u random own low ks us ls is =
+  pub own_whole : {X : Type 0} (g k u : ℕ) (random own : List X) → own ≡ block_of (k * (u - 1)) g random → g < group_count (shape_of p) → k ≡ p.components → u ≡ p.threshold
+      → length random ≡ random_count (scheme_of p) → length own % k ≡ 0
+  own_whole g k u random own is low ks us ls =
       let long : length own ≡ k * (u - 1) = ap length is ∙ own_long g k u random low ks us ls in
       ap (λ n. n % k) long ∙ mul-mod_right k (u - 1)
 

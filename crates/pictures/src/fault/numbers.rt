@@ -1,19 +1,9 @@
-ghost use Rattle.std.specs.Prelude.{◌≡◌, Ok, Err, MatchResult};
+ghost use Rattle.std.specs.Prelude.{◌≡◌};
 ghost use Rattle.pictures.specs.Faults.{number_of, slip_of, write_number_of};
 ghost use Rattle.pictures.specs.declared.fault.CardFault.TheVariants.{Slip};
 
 use crate::fault::{At, CardFault, WriteFault};
 use kinds::card::ElementFault;
-
-// What was answered at a place: a fault goes on whole, with its place.
-pub(crate) fn placed_at<T, F>(answer: Result<T, F>, place: usize) -> Result<T, At<F>>
-    ensures { MatchResult result (λ v. answer ≡ Ok v) (λ a. (a.place ≡ place) × (answer ≡ Err a.fault)) }
-{
-    match answer {
-        Ok(value) => Ok(value),
-        Err(fault) => Err(At { place, fault }),
-    }
-}
 
 impl From<At<ElementFault>> for CardFault {
     ghost from_gives = { λ x r. r ≡ Slip x };
@@ -25,6 +15,7 @@ impl From<At<ElementFault>> for CardFault {
 
 impl CardFault {
     // The number of this fault.
+    // Kept: a match, since only an enum whose variants all stand alone has discriminants, and Slip holds its place.
     pub fn number(self) -> u8
         ensures { result ≡ number_of self }
     {
@@ -56,10 +47,6 @@ impl WriteFault {
     pub fn number(self) -> u8
         ensures { result ≡ write_number_of self }
     {
-        match self {
-            WriteFault::Harbour => 15,
-            WriteFault::Slips => 19,
-            WriteFault::Place => 18,
-        }
+        self as u8
     }
 }

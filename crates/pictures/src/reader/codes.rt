@@ -1,60 +1,66 @@
-ghost use Rattle.std.specs.Prelude.{◌≡◌, ◌+◌, ◌-◌, ◌/◌, ◌%◌, ◌^◌, ◌<◌, ◌≤◌, ◌⊎◌, length};
-ghost use Rattle.pictures.specs.Unpacking.{BetweenCodes, bits_left, left};
+ghost use Rattle.std.specs.Prelude.{◌≡◌, ◌<◌, ◌≤◌, length};
+ghost use Rattle.pictures.specs.Unpacking.{BetweenCodes, ElementRead, NextRead, NothingRead, ReadOn, bits_left};
 
+use crate::fault::{At, CardFault};
 use crate::reader::BitReader;
+use kinds::card::Card;
 
-impl BitReader {
-    // A reader that has read nothing.
-    pub(crate) fn new() -> BitReader
-        ensures { result ≡ record { held = 0; bits = 0; at = 0 } }
+impl<'a> BitReader<'a> {
+    // A reader of codes of so many bits that has read nothing of a body.
+    pub(crate) fn new(body: &'a [u8], width: u32) -> BitReader<'a>
+        ensures { NothingRead width body.now result }
     {
         BitReader {
+            rest: body,
+            width,
             held: 0,
             bits: 0,
-            at: 0,
         }
     }
 
-    // Reads on for a code of so many bits: four bytes where a code is longer than a byte and there are four, otherwise one.
-    fn read_on(&mut self, body: &[u8], width: u32)
-        requires { (self.old.bits < 32) × (self.old.held < 2 ^ self.old.bits) × (self.old.at < length body.now) }
-        ensures kept { (left self.new body.now ≡ left self.old body.now) × (bits_left self.new body.now ≡ bits_left self.old body.now) }
-        ensures held { (self.new.held < 2 ^ self.new.bits) × (self.new.at ≤ length body.now) }
-        ensures more { (self.old.bits + 8 ≤ self.new.bits) × (self.new.bits ≤ self.old.bits + 32) }
-        ensures step { (self.new.bits ≡ self.old.bits + 8) ⊎ (self.new.bits ≡ self.old.bits + 32) }
+    // Reads on for a code: four bytes where a code is longer than a byte and there are four, otherwise one.
+    fn read_on(&mut self)
+        requires { BetweenCodes self.old × (1 ≤ length self.old.rest.now) }
+        ensures { ReadOn self.old self.new }
     {
-        if width > 8 && self.at + 4 <= body.len() {
-            let word = u32::from_be_bytes([
-                body[self.at],
-                body[self.at + 1],
-                body[self.at + 2],
-                body[self.at + 3],
-            ]);
-            self.held = (self.held << 32) + u64::from(word);
-            self.bits += 32;
-            self.at += 4;
-        } else {
-            self.held = (self.held << 8) + u64::from(body[self.at]);
-            self.bits += 8;
-            self.at += 1;
+        match self.rest {
+            [first, second, third, fourth, behind @ ..] if self.width > 8 => {
+                let word = u32::from_be_bytes([*first, *second, *third, *fourth]);
+                self.held = (self.held << 32) + u64::from(word);
+                self.bits += 32;
+                self.rest = behind;
+            }
+            [first, behind @ ..] => {
+                self.held = (self.held << 8) + u64::from(*first);
+                self.bits += 8;
+                self.rest = behind;
+            }
+            [] => unreachable!(),
         }
     }
 
-    // The next code of so many bits.
-    pub(crate) fn next(&mut self, body: &[u8], width: u32) -> u32
-        requires { (1 ≤ width) × (width ≤ 32) × BetweenCodes self.old body.now × (width ≤ bits_left self.old body.now) }
-        ensures code { result ≡ left self.old body.now / 2 ^ (bits_left self.old body.now - width) }
-        ensures rest { left self.new body.now ≡ left self.old body.now % 2 ^ (bits_left self.old body.now - width) }
-        ensures fewer { bits_left self.new body.now + width ≡ bits_left self.old body.now }
-        ensures between { BetweenCodes self.new body.now }
+    // The next code.
+    fn next(&mut self) -> u32
+        requires { BetweenCodes self.old × (self.old.width ≤ bits_left self.old) }
+        ensures { NextRead self.old result self.new }
     {
-        while self.bits < width {
-            self.read_on(body, width);
+        while self.bits < self.width {
+            self.read_on();
         }
-        self.bits -= width;
+        self.bits -= self.width;
         let code = self.held >> self.bits;
         self.held -= code << self.bits;
         code as u32
+    }
+
+    // The element of the next code, or the fault of a code that is no element's, at this slip.
+    pub(crate) fn element<C: Card>(&mut self, slip: usize) -> Result<C, CardFault>
+        requires { BetweenCodes self.old × (self.old.width ≤ bits_left self.old) }
+        ensures { ElementRead C.Card.coded slip self.old result self.new }
+    {
+        let code = self.next();
+        let element = C::from_code(code).map_err(|fault| At { place: slip, fault })?;
+        Ok(element)
     }
 
     // What is held, which is the bits behind the codes once every byte is read.

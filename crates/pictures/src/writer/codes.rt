@@ -1,96 +1,66 @@
-ghost use Rattle.std.specs.Prelude.{◌≡◌, ◌+◌, ◌-◌, ◌*◌, ◌/◌, ◌^◌, ◌<◌, ◌≤◌, ◌++◌, length, take, drop};
+ghost use Rattle.std.specs.Prelude.{◌≡◌, ◌+◌, ◌-◌, ◌*◌, ◌/◌, ◌^◌, ◌<◌, ◌≤◌, length};
 ghost use Rattle.sharing.specs.Format.{bytes_of};
-ghost use Rattle.pictures.specs.Packing.{CanGive, HasRoom, bits_made, made};
+ghost use Rattle.pictures.specs.Packing.{CanGive, Gave, HasRoom, NothingWritten, Pushed, bits_made, made};
 
 use crate::writer::BitWriter;
 
-// Writes a word's four bytes from a place on, the highest first.
-fn put_word(body: &mut [u8], at: usize, word: u32)
-    requires { at + 4 ≤ length body.old }
-    ensures { body.new ≡ take at body.old ++ (bytes_of 4 word ++ drop (at + 4) body.old) }
-{
-    let [first, second, third, fourth] = word.to_be_bytes();
-    body[at] = first;
-    body[at + 1] = second;
-    body[at + 2] = third;
-    body[at + 3] = fourth;
-}
-
-impl BitWriter {
-    // A writer that has written nothing.
-    pub(crate) fn new() -> BitWriter
-        ensures { result ≡ record { held = 0; bits = 0; at = 0 } }
+impl<'a> BitWriter<'a> {
+    // A writer of codes of so many bits that has written nothing to a body.
+    pub(crate) fn new(body: &'a mut [u8], width: u32) -> BitWriter<'a>
+        ensures same { result.body.ghost_name ≡ body.entry.ghost_name }
+        ensures none { NothingWritten width body.old result }
     {
         BitWriter {
+            body,
+            at: 0,
+            width,
             held: 0,
             bits: 0,
-            at: 0,
         }
     }
 
-    // Puts out the first byte of what is held.
-    fn give_byte(&mut self, body: &mut [u8])
-        requires { CanGive 1 self.old body.old }
-        ensures made { made self.new body.new ≡ made self.old body.old }
-        ensures same { bits_made self.new ≡ bits_made self.old }
-        ensures room { HasRoom self.new body.new }
-        ensures long { length body.new ≡ length body.old }
+    // Puts out so many bytes, the first of what is held.
+    fn give<const BYTES: usize>(&mut self)
+        requires { (BYTES ≤ 4) × CanGive BYTES self.old }
+        ensures same { self.new.body.ghost_name ≡ self.old.body.ghost_name }
+        ensures gave { Gave self.old self.new }
     {
-        self.bits -= 8;
-        let byte = self.held >> self.bits;
-        self.held -= byte << self.bits;
-        body[self.at] = byte as u8;
-        self.at += 1;
+        self.bits -= 8 * BYTES as u32;
+        let top = self.held >> self.bits;
+        self.held -= top << self.bits;
+        let bytes = top.to_be_bytes();
+        self.body[self.at..self.at + BYTES].copy_from_slice(&bytes[8 - BYTES..]);
+        self.at += BYTES;
     }
 
-    // Puts out the first four bytes of what is held.
-    fn give_word(&mut self, body: &mut [u8])
-        requires { CanGive 4 self.old body.old }
-        ensures made { made self.new body.new ≡ made self.old body.old }
-        ensures same { bits_made self.new ≡ bits_made self.old }
-        ensures room { HasRoom self.new body.new }
-        ensures long { length body.new ≡ length body.old }
+    // Writes a code behind what was written. A code of at most 8 bits puts out a byte as soon as there is one, a
+    // longer code four bytes as soon as there are four.
+    pub(crate) fn push(&mut self, code: u32)
+        requires { (self.old.width ≤ 32) × (code < 2 ^ self.old.width) × HasRoom self.old × (bits_made self.old + self.old.width ≤ 8 * length self.old.body.now) }
+        ensures same { self.new.body.ghost_name ≡ self.old.body.ghost_name }
+        ensures pushed { Pushed self.old self.new code }
     {
-        self.bits -= 32;
-        let word = self.held >> self.bits;
-        self.held -= word << self.bits;
-        put_word(body, self.at, word as u32);
-        self.at += 4;
-    }
-
-    // Writes a code of so many bits behind what was written. A code of at most 8 bits puts out a byte as soon as
-    // there is one, a longer code four bytes as soon as there are four.
-    pub(crate) fn push(&mut self, body: &mut [u8], code: u32, width: u32)
-        requires { (width ≤ 32) × (code < 2 ^ width) × HasRoom self.old body.old × (bits_made self.old + width ≤ 8 * length body.old) }
-        ensures made { made self.new body.new ≡ made self.old body.old * 2 ^ width + code }
-        ensures more { bits_made self.new ≡ bits_made self.old + width }
-        ensures room { HasRoom self.new body.new }
-        ensures long { length body.new ≡ length body.old }
-    {
-        self.held = (self.held << width) + u64::from(code);
-        self.bits += width;
-        if width <= 8 {
+        self.held = (self.held << self.width) + u64::from(code);
+        self.bits += self.width;
+        if self.width <= 8 {
             if self.bits >= 8 {
-                self.give_byte(body);
+                self.give::<1>();
             }
         } else if self.bits >= 32 {
-            self.give_word(body);
+            self.give::<4>();
         }
     }
 
     // Writes what is held, with 0 bits to the end of the last byte.
-    pub(crate) fn finish(self, body: &mut [u8])
-        requires { HasRoom self body.old × (length body.old ≡ (bits_made self + 7) / 8) }
-        ensures { body.new ≡ bytes_of (length body.old) (made self body.old * 2 ^ (8 * length body.old - bits_made self)) }
+    pub(crate) fn finish(self)
+        requires { HasRoom self × (length self.body.now ≡ (bits_made self + 7) / 8) }
+        ensures { self.exit.0.now ≡ bytes_of (length self.entry.body.now) (made self.entry * 2 ^ (8 * length self.entry.body.now - bits_made self.entry)) }
     {
-        let fill = (8 - self.bits % 8) % 8;
-        let held = self.held << fill;
-        let mut bits = self.bits + fill;
-        let mut at = self.at;
-        while bits > 0 {
-            bits -= 8;
-            body[at] = ((held >> bits) % 256) as u8;
-            at += 1;
-        }
+        let word = (self.held << (32 - self.bits)) as u32;
+        let bytes = word.to_be_bytes();
+        let BitWriter { body, at, .. } = self;
+        let behind = &mut body[at..];
+        let count = behind.len();
+        behind.copy_from_slice(&bytes[..count]);
     }
 }

@@ -4,7 +4,7 @@ use Rattle.pictures.proofs.Unread.{Unchanged}
 use Rattle.pictures.proofs.reader.BitReader.next.Given as goal
 
 abbrev pub invariant-loop-self : goal.invariant-loop-self
-invariant-loop-self l = Unchanged l.initial.self l.self l.width l.body
+invariant-loop-self l = Unchanged l.initial.self l.self
 
 abbrev pub decreases-loop-self : goal.decreases-loop-self
-decreases-loop-self l = l.width - l.self.bits
+decreases-loop-self l = l.self.width - l.self.bits

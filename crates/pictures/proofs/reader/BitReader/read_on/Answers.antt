@@ -1,27 +1,36 @@
 -- What read_on leaves to show: a word or a byte read on changes nothing of what is left. Assumes nothing.
-use Rattle.std.proofs.Common.{inl, inr, arith}
+use Rattle.std.proofs.Common.{refl, arith}
 use Rattle.std.proofs.lemmas.Nat.{shl_whole}
 use Rattle.pictures.proofs.Held.{held_fits}
-use Rattle.pictures.proofs.Unread.{left_byte, left_word}
+use Rattle.pictures.proofs.Unread.{bytes_behind, first_below, left_byte, left_word}
 use Rattle.pictures.proofs.reader.BitReader.read_on.Goals as goal
 
-pub returns-then-self-body : goal.returns-then-self-body
-returns-then-self-body c =
-    let moved = shl_whole c.args.self.now.held c.args.self.now.bits 32 64 c.requires.1 (omega arith) in
+pub returns-in-len4-up : goal.returns-in-len4-up
+returns-in-len4-up c =
+    let r = c.args.self.now in
+    let between = c.requires.0 in
+    let moved = shl_whole r.held r.bits 32 64 between.small (omega (arith, between.few)) in
     record {
-      kept = (left_word c.args.body.now c.args.self.now.held c.args.self.now.at _ (omega arith) (omega arith), omega arith);
-      held = (omega (arith, held_fits c.args.self.now.held c.args.self.now.bits 32 c.from.result c.requires.1 (omega arith)), omega arith);
-      more = (omega arith, omega arith);
-      step = inr (omega arith);
+      number = left_word r.rest.now r.held _ (omega arith) (omega arith);
+      bits = omega arith;
+      width = refl;
+      more = omega arith;
+      few = omega arith;
+      small = omega (arith, held_fits r.held r.bits 32 c.from.result between.small (omega arith));
+      bytes = bytes_behind r.rest.now 4 between.bytes;
     }
 
-pub returns-else-width-gt8 : goal.returns-else-width-gt8
-returns-else-width-gt8 c =
-    let moved = shl_whole c.args.self.now.held c.args.self.now.bits 8 64 c.requires.1 (omega arith) in
-    let byte = c.type_inv.body c.args.self.now.at in
+pub returns-in-len1-up : goal.returns-in-len1-up
+returns-in-len1-up c =
+    let r = c.args.self.now in
+    let between = c.requires.0 in
+    let moved = shl_whole r.held r.bits 8 64 between.small (omega (arith, between.few)) in
     record {
-      kept = (left_byte c.args.body.now c.args.self.now.held c.args.self.now.at _ _ (omega arith) (omega arith) (omega arith), omega arith);
-      held = (omega (arith, held_fits c.args.self.now.held c.args.self.now.bits 8 c.from-else-width-gt8.result c.requires.1 (omega arith)), omega arith);
-      more = (omega arith, omega arith);
-      step = inl (omega arith);
+      number = left_byte r.rest.now r.held _ c.requires.1 (omega arith);
+      bits = omega arith;
+      width = refl;
+      more = omega arith;
+      few = omega arith;
+      small = omega (arith, held_fits r.held r.bits 8 c.from-in-len1-up.result between.small (omega (arith, first_below r.rest.now between.bytes c.requires.1)));
+      bytes = bytes_behind r.rest.now 1 between.bytes;
     }

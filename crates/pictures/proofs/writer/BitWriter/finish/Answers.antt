@@ -1,13 +1,10 @@
--- What is held goes out byte by byte, until nothing is left. Assumes nothing.
-use Rattle.std.proofs.Common.{rules}
-use Rattle.pictures.proofs.Emptying.{finished, left_all, left_less}
+-- What is held goes out with 0 bits behind it, as the first bytes of a word. Assumes nothing.
+use Rattle.std.proofs.Common.{arith}
+use Rattle.pictures.proofs.Emptying.{finished, word_fits}
 use Rattle.pictures.proofs.writer.BitWriter.finish.Goals as goal
 
-pub loop-bits-init : goal.loop-bits-init
-loop-bits-init c = search (rules, left_all)
-
-pub loop-bits-preserved : goal.loop-bits-preserved
-loop-bits-preserved c = search (rules, left_less)
+pub overflow_cast-word-2 : goal.overflow_cast-word-2
+overflow_cast-word-2 c = omega (arith, word_fits c.args.self c.requires.0 c.requires.1)
 
 pub returns : goal.returns
-returns c = search (rules, finished)
+returns c = finished c.args.self c.requires.0 c.requires.1 c.copy_from_slice.new.self (rw c.to_be_bytes-bytes.ensures at c.copy_from_slice.ensures.after)

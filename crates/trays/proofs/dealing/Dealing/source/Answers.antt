@@ -10,6 +10,6 @@ pub invariant_of-result : goal.invariant_of-result
 invariant_of-result g c = record {
   some = search rules;
   sized = search rules;
-  whole = own_whole c.args.self.now.table.now.plan c.args.number c.components-size.result c.threshold.result c.args.self.now.random.now c.part-own.result.now
-      c.requires (search rules) (search rules) c.args.self.now.enough c.part-own.ensures;
+  whole = own_whole c.args.self.now.table.now.plan _ c.components-size.result c.threshold.result c.args.self.now.random.now c.part-own.result.now
+      c.part-own.ensures (omega arith) (search rules) (search rules) c.args.self.now.enough;
 }
