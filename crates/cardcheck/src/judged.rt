@@ -1,23 +1,13 @@
 // What a picture comes to.
-ghost use Rattle.std.specs.Prelude.{◌≡◌, IfOk, vec_len, Decides, MatchOption, ◌≢◌};
+ghost use Rattle.std.specs.Prelude.{◌≡◌, IfOk, vec_len, Decides};
 ghost use Rattle.cardcheck.specs.Cards.{Finds, WritesSame};
-ghost use Rattle.kinds.specs.Codes.{code_of};
-ghost use Rattle.pictures.specs.Reading.{head_in};
 
 use crate::told::{Told, Unsound};
 use kinds::card::Card;
-use kinds::kind::Kind;
 use pictures::check::check;
 use pictures::load::load;
 use pictures::write::write;
 use std::alloc::{AllocError, Global};
-
-// The kind whose code stands in a picture's first byte, if there is a byte and such a kind.
-pub fn kind_in(picture: &[u8]) -> Option<Kind>
-    ensures { MatchOption result ((kind : Kind) → code_of kind ≢ (head_in picture.now).kind) (λ kind. code_of kind ≡ (head_in picture.now).kind) }
-{
-    Kind::try_from(*picture.first()? % 16).ok()
-}
 
 // So many elements.
 fn elements<C: Card>(heap: Global, count: usize) -> Result<Vec<C>, AllocError>

@@ -1,7 +1,6 @@
 // A tool for crews: it reads pictures of cards in hexadecimal, one a line, and prints what each comes to.
 #![tactic(auto)]
 
-use crate::judged::kind_in;
 use crate::line::bytes_of;
 use crate::said::say;
 use kinds::dial_number::DialNumber;
@@ -9,6 +8,7 @@ use kinds::key_word::KeyWord;
 use kinds::kind::Kind;
 use kinds::mask_byte::MaskByte;
 use lines::answer_lines;
+use pictures::kind::kind_in;
 use std::io;
 
 mod judged;

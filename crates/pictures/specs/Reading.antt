@@ -43,6 +43,10 @@ head_refusal kind width bytes =
     (cond (unfit_head (head_in bytes)) 23
     (cond (not (length bytes == 9 + body_length width (slips_of (head_in bytes)))) 24 0))))
 
+-- A body holds so many codes of so many bits, no more than a card has.
+abbrev pub HoldsCodes : ℕ → ℕ → List ℕ → Type 0
+HoldsCodes width n body = (n ≤ 2016) × (length body ≡ body_length width n)
+
 -- So many codes, from the first bit of the body on, highest bit first.
 abbrev pub codes_of : ℕ → ℕ → List ℕ → List ℕ
 codes_of width n body = digits (2 ^ width) n (number_from_digits 256 body / 2 ^ filling width n)

@@ -1,7 +1,6 @@
-ghost use Rattle.std.specs.Prelude.{◌≡◌, ◌≤◌, length, MatchResult};
-ghost use Rattle.sharing.specs.Format.{body_length};
+ghost use Rattle.std.specs.Prelude.{MatchResult};
 ghost use Rattle.pictures.specs.Faults.{number_of, slip_of};
-ghost use Rattle.pictures.specs.Reading.{Checked, Coded, Judges, ReadThrough, codes_of, rest_of};
+ghost use Rattle.pictures.specs.Reading.{Checked, Coded, HoldsCodes, Judges, ReadThrough, codes_of, rest_of};
 
 use crate::fault::CardFault;
 use crate::head::CardHead;
@@ -11,7 +10,7 @@ use kinds::card::Card;
 
 // Checks a body of so many codes: each is an element's, and the bits behind them are 0.
 pub(crate) fn check_body<C: Card>(body: &[u8], slips: usize) -> Result<(), CardFault>
-    requires { (slips ≤ 2016) × (length body.now ≡ body_length C.Card.bits slips) }
+    requires { HoldsCodes C.Card.bits slips body.now }
     ensures { MatchResult result
         (λ _. ReadThrough (Coded C.Card.coded) (codes_of C.Card.bits slips body.now) (rest_of C.Card.bits slips body.now) 0 0)
         (λ f. ReadThrough (Coded C.Card.coded) (codes_of C.Card.bits slips body.now) (rest_of C.Card.bits slips body.now) (number_of f) (slip_of f)) }
@@ -36,6 +35,7 @@ pub fn check<C: Card>(picture: &[u8]) -> Result<CardHead, CardFault>
 }
 
 // 0 for a sound picture of a card of this kind, otherwise the number of its fault.
+// Kept: a number, since it is what C programs are answered.
 pub fn refusal<C: Card>(picture: &[u8]) -> u32
     ensures { Judges C.Card.coded C.Card.kind C.Card.bits picture.now result }
 {

@@ -1,6 +1,5 @@
-ghost use Rattle.std.specs.Prelude.{◌≡◌, ◌≤◌, map, length, All, MatchResult};
-ghost use Rattle.sharing.specs.Format.{body_length};
-ghost use Rattle.pictures.specs.Reading.{Coded, Loaded, codes_of};
+ghost use Rattle.std.specs.Prelude.{◌≡◌, map, length, All, MatchResult};
+ghost use Rattle.pictures.specs.Reading.{Coded, HoldsCodes, Loaded, codes_of};
 
 use crate::check::check_body;
 use crate::fault::CardFault;
@@ -11,7 +10,7 @@ use kinds::card::Card;
 
 // Writes the elements of a body's codes to the place.
 fn load_body<C: Card>(body: &[u8], place: &mut [C]) -> Result<(), CardFault>
-    requires { (length place.old ≤ 2016) × (length body.now ≡ body_length C.Card.bits (length place.old)) }
+    requires { HoldsCodes C.Card.bits (length place.old) body.now }
     ensures { MatchResult result
         (λ _. map C.Card.coded place.new ≡ codes_of C.Card.bits (length place.old) body.now)
         (λ _. All (Coded C.Card.coded) (codes_of C.Card.bits (length place.old) body.now) → ⊥) }

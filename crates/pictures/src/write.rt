@@ -1,6 +1,6 @@
 ghost use Rattle.std.specs.Prelude.{◌≡◌, ◌≤◌, map, length};
-ghost use Rattle.sharing.specs.Format.{body_bytes, body_length, head_bytes};
-ghost use Rattle.pictures.specs.Reading.{said_by};
+ghost use Rattle.sharing.specs.Format.{body_bytes, head_bytes};
+ghost use Rattle.pictures.specs.Reading.{HoldsCodes, said_by};
 ghost use Rattle.pictures.specs.Writing.{BodyIsBits, OneToOne, ReadsBack, Written};
 
 use crate::fault::WriteFault;
@@ -31,7 +31,7 @@ fn head_in_bytes(head: &CardHead, kind: u8) -> [u8; 9]
 
 // Writes the codes, and then 0 bits to the end of the byte.
 fn write_body<C: Card>(slips: &[C], body: &mut [u8])
-    requires { (length slips.now ≤ 2016) × (length body.old ≡ body_length C.Card.bits (length slips.now)) }
+    requires { HoldsCodes C.Card.bits (length slips.now) body.old }
     ensures { body.new ≡ body_bytes C.Card.bits (map C.Card.coded slips.now) }
 {
     let mut writer = BitWriter::new(body, C::width());

@@ -50,6 +50,7 @@ impl From<Option<usize>> for Answer {
     }
 }
 
+// Kept: by hand, since no derive of the library prints, and an answer is no error.
 impl fmt::Display for Answer {
     fn fmt<W: fmt::Write>(&self, f: &mut fmt::Formatter<W>) -> fmt::Result {
         match self {

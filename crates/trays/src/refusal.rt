@@ -6,25 +6,18 @@ use thiserror::Error;
 // Why a call on a tray is turned away. Each case has a number, by which crews and programs know it.
 #[derive(Clone, Copy, PartialEq, Eq, Debug, Error)]
 pub enum Refusal {
-    // The key has not as many elements as the plan has components.
     #[error("refused {}: the key has not as many elements as the plan has components", self.number())]
     Key = 8,
-    // There are not as many random elements as a dealing takes.
     #[error("refused {}: there are not as many random elements as a dealing takes", self.number())]
     Random = 9,
-    // The tray is not as long as the plan's.
     #[error("refused {}: the tray is not as long as the plan's", self.number())]
     Tray = 10,
-    // A draw is open.
     #[error("refused {}: a draw is open", self.number())]
     DrawIsOpen = 11,
-    // The record is in the last round that there is.
     #[error("refused {}: the record is in its last round", self.number())]
     LastRound = 12,
-    // The sheet is not as long as the tray.
     #[error("refused {}: the sheet is not as long as the tray", self.number())]
     Sheet = 13,
-    // No draw is open, or the note bears another round.
     #[error("refused {}: no draw is open, or the note bears another round", self.number())]
     NotCurrent = 14,
     // The harbour is 0 or above the number of harbours.

@@ -32,6 +32,7 @@ impl CardFault {
     }
 
     // The slip whose code is no element's, from 0, and 0 where no code is at fault.
+    // Kept: 0 and no Option by rule, which names this place for every fault.
     pub fn slip(self) -> usize
         ensures { result ≡ slip_of self }
     {

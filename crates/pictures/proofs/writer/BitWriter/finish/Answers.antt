@@ -7,4 +7,4 @@ pub overflow_cast-word-2 : goal.overflow_cast-word-2
 overflow_cast-word-2 c = omega (arith, word_fits c.args.self c.requires.0 c.requires.1)
 
 pub returns : goal.returns
-returns c = finished c.args.self c.requires.0 c.requires.1 c.copy_from_slice.new.self (rw c.to_be_bytes-bytes.ensures at c.copy_from_slice.ensures.after)
+returns c = finished c.args.self c.requires.0 c.requires.1 c.copy_from_slice.new.self (cc)

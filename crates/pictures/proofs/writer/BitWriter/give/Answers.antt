@@ -6,4 +6,4 @@ use Rattle.pictures.proofs.writer.BitWriter.give.Goals as goal
 pub returns-clause-gave : goal.returns-clause-gave
 returns-clause-gave g c =
     gives g.row.BYTES c.requires.0 c.args.self.now c.requires.1 _ refl refl refl refl
-    (bytes_put c.args.self.now.body.now c.copy_from_slice.new.self g.row.BYTES c.args.self.now.at _ c.requires.0 (rw c.to_be_bytes-bytes.ensures at c.copy_from_slice.ensures.after))
+    (bytes_put c.args.self.now.body.now c.copy_from_slice.new.self g.row.BYTES c.args.self.now.at _ c.requires.0 (cc))
