@@ -31,6 +31,7 @@ fn rewrites<C: Card>(heap: Global, card: &Told<C>, picture: &[u8]) -> Result<boo
     ensures { IfOk result (λ b. Decides b (WritesSame C.Card.coded C.Card.kind C.Card.bits picture.now card.now)) }
 {
     let mut place = Vec::from_elem(heap, 0u8, picture.len())?;
+    // Kept: with `is_ok` and one comparison behind it the proof did not close.
     match write(&card.head, card.slips.as_slice(), place.as_mut_slice()) {
         Ok(()) => Ok(place.as_slice() == picture),
         Err(_) => Ok(false),

@@ -25,7 +25,7 @@ fn bytes_by(heap: Global, text: &[u8]) -> Result<Option<Vec<u8>>, AllocError>
 {
     let mut bytes = Vec::new(heap);
     let mut rest = text;
-    // Kept: no chain takes one letter at a space and two at digits.
+    // Kept: split and chunks would say it in two loops, no plainer than four patterns.
     loop {
         match rest {
             [] => return Ok(Some(bytes)),

@@ -24,6 +24,7 @@ pub enum Unsound {
     NoMemory(AllocError),
 }
 
+// Kept: these two by hand, since a derived From does not say what it gives.
 impl From<CardFault> for Unsound {
     ghost from_gives = { λ x r. r ≡ Refused x };
 

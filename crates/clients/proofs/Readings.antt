@@ -1,8 +1,6 @@
 -- Two deals and one reading of each are two runs of one turn. Assumes nothing.
-use Rattle.std.proofs.Common.{◌≡◌, ℕ, zero, suc, ◌+◌, ◌-◌, ◌<◌, ◌≤◌, min, Bool, true, false, cond, ◌&&◌, eqb, List, [], ◌∷◌, map, length, take, drop, filter, Ok, Err, Result, sym, refl, ap, ◌∙◌, subst, ap₂, ⊎_elim, arith}
-use Rattle.std.specs.Borrow.{Bor}
+use Rattle.std.proofs.Common.{◌≡◌, ℕ, zero, suc, ◌+◌, ◌-◌, ◌<◌, ◌≤◌, min, Bool, true, false, cond, ◌&&◌, eqb, List, [], ◌∷◌, map, length, take, drop, filter, sym, refl, ap, ◌∙◌, subst, ap₂, ⊎_elim, arith}
 use Rattle.std.specs.List.{range_with_len}
-use Rattle.std.specs.Result.{IfOk}
 use Rattle.std.proofs.lemmas.List.{length-drop, length-take}
 use Rattle.std.proofs.lemmas.Bool.{and_parts, eqb-true, or_cases, true≢false}
 use Rattle.kinds.specs.Group.{Group}
@@ -15,9 +13,7 @@ use Rattle.sharing.specs.Secrecy.{read_in}
 use Rattle.sharing.specs.Steps.{Dealt, Kind, Run, Seen, State, Step, agrees, differs, done, handed, noted, pictured, refused, reissued, stale, wiped}
 use Rattle.sharing.specs.Threshold.{read_count, scheme_of}
 use Rattle.sharing.proofs.Turning.{fits}
-use Rattle.trays.specs.Turns.{HandsOut, ReadTurns}
-use Rattle.trays.specs.declared.refusal.Refusal.{Refusal}
-use Rattle.clients.specs.Alike.{ReadsOnce, SameCard, one_reading}
+use Rattle.clients.specs.Alike.{SameCard, one_reading}
 use Rattle.clients.specs.declared.Lent.{Lent}
 
 -- At most one number passes a test that only one can pass.
@@ -95,17 +91,14 @@ module _ {E : Type 0} (G : Group) (m : E → G.Value) (p : Plan) (issue harbour 
         (drop_nil n, refl, refl),
       )
 
-  -- A reading that follows the deal hands out the card once.
-  pub reads_once : (lent : Lent E) (s : State E) (r : Result (Bor (List E)) Refusal) → Dealt kind (scheme_of p) issue lent.key.now lent.random.now s
-      → ReadTurns G m s.told harbour s.tray r → HandsOut s.told harbour s.tray r → IfOk r (λ card. ReadsOnce G m p issue harbour lent card.now)
-  reads_once lent s r dealt turns out = go r turns out
-    where
-      go : (r : Result (Bor (List E)) Refusal) → ReadTurns G m s.told harbour s.tray r → HandsOut s.told harbour s.tray r → IfOk r (λ card. ReadsOnce G m p issue harbour lent card.now)
-      go (Ok card) turns out = (s, dealt, turns s.sheet (λ _. 0) 0 0, out)
-      go (Err e) turns out = tt
+  -- A card that is read straight after a deal: some state follows the deal, in which the reading hands out this very part of the tray.
+  abbrev pub ReadsOnce : Lent E → List E → Type 0
+  ReadsOnce lent card =
+      (s : State E) × Dealt kind (scheme_of p) issue lent.key.now lent.random.now s
+      × Step kind s (own (read harbour (length s.tray))) [] (handed (map m card)) s × (card ≡ card_in s.told.scheme (harbour - 1) s.tray)
 
   -- The two cards mean the same.
-  pub cards_alike : HidesAsAsked G m → (first second : Lent E) (card₁ card₂ : List E) → ReadsOnce G m p issue harbour first card₁ → ReadsOnce G m p issue harbour second card₂
+  pub cards_alike : HidesAsAsked G m → (first second : Lent E) (card₁ card₂ : List E) → ReadsOnce first card₁ → ReadsOnce second card₂
       → SameCard G m p issue harbour first second (map m card₁ ≡ map m card₂)
   unfolding first_card
   cards_alike hides first second card₁ card₂ (s₁, dealt₁, step₁, part₁) (s₂, dealt₂, step₂, part₂) d long some keys randoms =
@@ -118,7 +111,7 @@ module _ {E : Type 0} (G : Group) (m : E → G.Value) (p : Plan) (issue harbour 
   card_long s n = min (length (card s.masks s.components (harbour - 1))) (n - card_start s (harbour - 1))
 
   -- Both cards are equally long.
-  pub as_long : (first second : Lent E) (card₁ card₂ : List E) → ReadsOnce G m p issue harbour first card₁ → ReadsOnce G m p issue harbour second card₂ → length card₁ ≡ length card₂
+  pub as_long : (first second : Lent E) (card₁ card₂ : List E) → ReadsOnce first card₁ → ReadsOnce second card₂ → length card₁ ≡ length card₂
   as_long first second card₁ card₂ (s₁, dealt₁, step₁, part₁) (s₂, dealt₂, step₂, part₂) =
       let same : length s₁.tray ≡ length s₂.tray = dealt_tray first.key.now first.random.now s₁ dealt₁ ∙ sym (dealt_tray second.key.now second.random.now s₂ dealt₂) in
       ap length part₁ ∙ long s₁.told.scheme s₁.tray ∙ ap₂ card_long (ap (λ (t : Told). t.scheme) dealt₁.1) same

@@ -1,13 +1,15 @@
 -- What a client may expect that deals two keys and reads the same card from both. Assumes nothing.
-use Rattle.std.specs.Prelude.{◌≡◌, ℕ, ◌-◌, ◌≤◌, List, [], ◌∷◌, map, length}
+use Rattle.std.specs.Prelude.{◌≡◌, ℕ, ◌≤◌, List, [], ◌∷◌, map, length}
 use Rattle.kinds.specs.Group.{Group}
 use Rattle.plans.specs.declared.plan.Plan.{Plan}
 use Rattle.sharing.specs.Calls.{Turn, own, read, tray_length}
-use Rattle.sharing.specs.Dealing.{added, card_in}
+use Rattle.sharing.specs.Dealing.{added}
 use Rattle.sharing.specs.Promise.{kind_of}
 use Rattle.sharing.specs.Secrecy.{deal_shift}
-use Rattle.sharing.specs.Steps.{Dealt, State, Step, handed}
+use Rattle.sharing.specs.Steps.{Dealt}
 use Rattle.sharing.specs.Threshold.{scheme_of}
+use Rattle.trays.specs.Turns.{holding, told_by}
+use Rattle.trays.specs.declared.record.Record.{Record}
 use Rattle.clients.specs.declared.Lent.{Lent}
 
 -- The one turn of such a client: the harbour is read.
@@ -22,10 +24,7 @@ SameCard G meaning p issue harbour first second same =
     → map meaning second.random.now ≡ added G (map meaning first.random.now) (deal_shift G 0 (scheme_of p) issue (one_reading p harbour) d)
     → same
 
--- A card that is read once, straight after a deal: some state follows the deal, in which the reading hands out this very part of the tray.
-abbrev pub ReadsOnce : {E : Type 0} → (G : Group) → (E → G.Value) → Plan → ℕ → ℕ → Lent E → List E → Type 0
-ReadsOnce {E} G meaning p issue harbour lent card =
-    (s : State E)
-    × Dealt (kind_of G meaning (λ _. 0) 0 0) (scheme_of p) issue lent.key.now lent.random.now s
-    × Step (kind_of G meaning (λ _. 0) 0 0) s (own (read harbour (length s.tray))) [] (handed (map meaning card)) s
-    × (card ≡ card_in s.told.scheme (harbour - 1) s.tray)
+-- A key is dealt from what is lent: a record and its tray follow the deal, whatever sheet lies beside them.
+abbrev pub DealtFrom : {E : Type 0} → (G : Group) → (E → G.Value) → Plan → ℕ → Lent E → Record → List E → Type 0
+DealtFrom {E} G meaning p issue lent made tray =
+    (sheet : List E) → Dealt (kind_of G meaning (λ _. 0) 0 0) (scheme_of p) issue lent.key.now lent.random.now (holding (told_by made) tray sheet)

@@ -2,11 +2,12 @@
 #![tactic(auto)]
 
 ghost use Rattle.std.specs.Prelude.{◌≡◌, true, T, ◌↔◌, map, length, IfOk};
-ghost use Rattle.clients.specs.Alike.{ReadsOnce, SameCard};
+ghost use Rattle.clients.specs.Alike.{DealtFrom, SameCard};
 ghost use Rattle.sharing.specs.Promise.{HidesAsAsked};
 
 use kinds::element::Element;
 use plans::plan::Plan;
+use trays::record::Record;
 use trays::record::deal::deal;
 use trays::refusal::Refusal;
 
@@ -26,19 +27,18 @@ fn all_same<E: Element>(these: &[E], others: &[E]) -> bool
     these.iter().zip(others).all(|(one, other)| one.same(other))
 }
 
-// Deals a key, and reads a harbour's card.
-fn read_dealt<'a, E: Element>(
+// Deals a key onto the tray that is lent with it, and hands the tray back beside its record.
+fn dealt<'a, E: Element>(
     plan: Plan,
     issue: u32,
-    harbour: usize,
     lent: Lent<'a, E>,
-) -> Result<&'a [E], Refusal>
-    ensures once { IfOk result (λ card. ReadsOnce E.Element.group E.Element.meaning plan issue harbour lent.entry card.now) }
+) -> Result<(Record, &'a [E]), Refusal>
+    ensures dealt { IfOk result (λ made. DealtFrom E.Element.group E.Element.meaning plan issue lent.entry made.0 made.1.now) }
     ensures hides { HidesAsAsked E.Element.group E.Element.meaning }
 {
     let Lent { key, random, tray } = lent;
     let record = deal(plan, issue, key, random, tray)?;
-    record.read(tray, harbour)
+    Ok((record, tray))
 }
 
 // Deals two keys, each with its own random elements onto its own tray, reads the same harbour's card from both, and answers whether the two cards are the same.
@@ -52,7 +52,9 @@ pub fn reads_the_same<E: Element>(
 ) -> Result<bool, Refusal>
     ensures { IfOk result (λ same. SameCard E.Element.group E.Element.meaning plan issue harbour first.entry second.entry (same ≡ true)) }
 {
-    let card = read_dealt(plan, issue, harbour, first)?;
-    let other = read_dealt(plan, issue, harbour, second)?;
+    let (record, tray) = dealt(plan, issue, first)?;
+    let (other_record, other_tray) = dealt(plan, issue, second)?;
+    let card = record.read(tray, harbour)?;
+    let other = other_record.read(other_tray, harbour)?;
     Ok(all_same(card, other))
 }

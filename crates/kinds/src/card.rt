@@ -24,7 +24,7 @@ pub trait Card: Element {
         ensures { result ≡ kind };
 
     // How many bits a code takes.
-    // Kept: code and width are functions by rule; as constants each kind would name them twice, for code and for clauses.
+    // Kept: a function by rule, as the kind code is, and no constant of the trait.
     fn width() -> u32
         ensures { result ≡ bits };
 

@@ -27,7 +27,7 @@ impl Element for MaskByte {
     }
 
     fn opposite(&self) -> Self {
-        MaskByte { value: self.value }
+        *self
     }
 
     fn same(&self, other: &Self) -> bool {

@@ -43,3 +43,27 @@ pub fn answer_lines<F: FnMut(u64, &str) -> io::Result<()>>(
 {
     answer_text(rt.alloc(), BufReader::new(rt.alloc(), rt.stdin())?, answer)
 }
+
+#[cfg(test)]
+mod tests {
+    use crate::answer_text;
+    use std::test::Fail;
+
+    #[test]
+    fn lines_that_are_not_passed_over(rt: HostRuntime) -> Result<(), Fail> {
+        let mut numbers = 0u64;
+        let mut letters = 0usize;
+        answer_text(
+            rt.alloc(),
+            "one\n# two\n\nfour".as_bytes(),
+            |number, line| {
+                numbers = numbers.wrapping_mul(10).wrapping_add(number);
+                letters = letters.wrapping_add(line.len());
+                Ok(())
+            },
+        )?;
+        assert_eq!(rt; numbers, 14);
+        assert_eq!(rt; letters, 7);
+        Ok(())
+    }
+}

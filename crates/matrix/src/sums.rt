@@ -27,6 +27,7 @@ pub(crate) fn group_sum(threshold: usize, group: usize, component: usize, column
     ensures restores { result ≡ key_only component (column_named column) }
 {
     let mut sum = 0i8;
+    // Kept: of a sum of signed numbers the library does not show that it fits.
     for position in 1..=threshold {
         let row = RowLabel {
             group,

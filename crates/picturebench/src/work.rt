@@ -8,6 +8,7 @@ use pictures::write::write;
 const SLIPS: usize = 1008;
 
 // Loads a picture, and answers the code of a slip, 0 where it is not loaded or there is no such slip.
+// Kept: 0 and no Option, here and below, since C is answered a number.
 pub(crate) fn loaded<C: Card + Copy>(picture: &[u8], at: usize) -> u32
     requires { PlaceFits 1008 C.row }
     ensures { Reads C.Card.coded C.Card.kind C.Card.bits picture.now 1008 at result }

@@ -26,6 +26,7 @@ pub(crate) fn check_body<C: Card>(body: &[u8], slips: usize) -> Result<(), CardF
 }
 
 // Checks the picture of a card of this kind, and answers its head.
+// Kept: clauses name the members of a kind one by one, as the definitions take them for any coding.
 pub fn check<C: Card>(picture: &[u8]) -> Result<CardHead, CardFault>
     ensures { Checked C.Card.coded C.Card.kind C.Card.bits picture.now result }
 {
@@ -35,7 +36,7 @@ pub fn check<C: Card>(picture: &[u8]) -> Result<CardHead, CardFault>
 }
 
 // 0 for a sound picture of a card of this kind, otherwise the number of its fault.
-// Kept: a number, since it is what C programs are answered.
+// Kept: a number, since it is what C programs are answered, and a match, since in a chain of `err` and `map_or` the proof did not close.
 pub fn refusal<C: Card>(picture: &[u8]) -> u32
     ensures { Judges C.Card.coded C.Card.kind C.Card.bits picture.now result }
 {

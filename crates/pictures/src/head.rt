@@ -1,6 +1,6 @@
 use plans::plan::Plan;
 
-// What stands at the head of a card's picture, beside the kind.
+// What stands at the head of a card's picture, besides the kind.
 #[derive(Clone, Copy, PartialEq, Eq, Debug)]
 pub struct CardHead {
     pub plan: Plan,

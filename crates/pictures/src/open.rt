@@ -15,13 +15,12 @@ fn plan_and_harbour(second: u8, third: u8) -> Result<(Plan, usize), CardFault>
         (λ s. (unfit (second / 16) (second % 16) (third % 16) (third / 16) ≡ false) × (shape_of s.0 ≡ record { harbours = second / 16; threshold = second % 16; components = third % 16 }) × (s.1 ≡ third / 16))
         (λ f. (unfit (second / 16) (second % 16) (third % 16) (third / 16) ≡ true) × (f ≡ Ranges)) }
 {
-    let Ok(plan) = Plan::new(
+    let plan = Plan::new(
         usize::from(second / 16),
         usize::from(second % 16),
         usize::from(third % 16),
-    ) else {
-        return Err(CardFault::Ranges);
-    };
+    )
+    .map_err(|_| CardFault::Ranges)?;
     let harbour = usize::from(third / 16);
     if harbour < 1 || harbour > plan.harbours() {
         return Err(CardFault::Ranges);

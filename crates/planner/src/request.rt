@@ -16,6 +16,7 @@ fn three_words(line: &str) -> Option<(&str, &str, &str)>
 {
     let mut words = line.split_whitespace();
     let three = (words.next()?, words.next()?, words.next()?);
+    // Kept: with `is_none` and `then_some` the proof did not close.
     match words.next() {
         None => Some(three),
         Some(_) => None,

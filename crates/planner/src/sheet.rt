@@ -45,6 +45,7 @@ fn print_sizes(rt: &HostRuntime, plan: &Plan) -> io::Result<()> {
 fn print_card(rt: &HostRuntime, table: &Table, harbour: usize) -> io::Result<()> {
     print!(rt; "card {harbour}")?;
     let mut before = ':';
+    // Kept: by number, by which a slip's contract names its group.
     for (number, _) in table.masks().iter().enumerate() {
         if let Some(slip) = Slip::of(table, number, harbour) {
             print!(rt; "{before} group {number} at {slip}")?;
@@ -102,10 +103,8 @@ fn print_matrix(rt: &HostRuntime, plan: &Plan) -> io::Result<()> {
 // Prints what a planner wants to see of a plan.
 pub(crate) fn print_plan(rt: &HostRuntime, plan: &Plan) -> io::Result<()> {
     let harbours = plan.harbours();
-    let threshold = plan.threshold();
-    let components = plan.components();
     let table = plan.table();
-    println!(rt; "plan: {harbours} harbours, threshold {threshold}, key of {components}")?;
+    println!(rt; "plan: {plan}")?;
     print_groups(rt, harbours, table.masks())?;
     print_sizes(rt, plan)?;
     print_cards(rt, &table, harbours)?;

@@ -2,8 +2,9 @@
 ghost use Rattle.std.specs.Prelude.{◌≡◌};
 ghost use Rattle.rehearsal.specs.Answers.{from_audit, from_discard};
 
-use std::fmt;
+use std::{fmt, io};
 use trays::answer::Discarded;
+use trays::refusal::Refusal;
 
 // The answer of a call.
 #[derive(Clone, Copy)]
@@ -50,7 +51,7 @@ impl From<Option<usize>> for Answer {
     }
 }
 
-// Kept: by hand, since no derive of the library prints, and an answer is no error.
+// Kept: by hand, since the one derive that prints makes an error of its type.
 impl fmt::Display for Answer {
     fn fmt<W: fmt::Write>(&self, f: &mut fmt::Formatter<W>) -> fmt::Result {
         match self {
@@ -63,5 +64,17 @@ impl fmt::Display for Answer {
             Answer::Agrees => write!(f, "agrees"),
             Answer::Differs(number) => write!(f, "group {number} restores otherwise"),
         }
+    }
+}
+
+// Prints a call's answer, or its refusal, behind its name.
+pub(crate) fn print_answer(
+    rt: &HostRuntime,
+    what: &str,
+    answer: Result<Answer, Refusal>,
+) -> io::Result<()> {
+    match answer {
+        Ok(answer) => println!(rt; "{what}: {answer}"),
+        Err(refusal) => println!(rt; "{what}: {refusal}"),
     }
 }

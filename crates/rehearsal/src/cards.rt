@@ -12,6 +12,7 @@ use std::io;
 use trays::record::Record;
 
 // A kind that can be shown: it has a name, and its elements are printed.
+// Kept: a trait of this program and no Display, since elements are printed behind spaces, each kind in its own base.
 pub trait Shown: Card {
     // The name of the kind.
     fn name() -> &'static str
@@ -58,11 +59,8 @@ pub(crate) fn print_elements<C: Shown>(rt: &HostRuntime, elements: &[C]) -> io::
 
 // Prints a plan, with the name of the kind.
 pub(crate) fn print_plan<C: Shown>(rt: &HostRuntime, plan: &Plan) -> io::Result<()> {
-    let harbours = plan.harbours();
-    let threshold = plan.threshold();
-    let components = plan.components();
     let name = C::name();
-    println!(rt; "plan: {harbours} harbours, threshold {threshold}, key of {components}, in {name}")
+    println!(rt; "plan: {plan}, in {name}")
 }
 
 // Prints the card of each harbour, as it is read.

@@ -1,5 +1,5 @@
 // A ceremony in any kind of element: a deal, a round that is applied, one that is discarded, and an audit.
-use crate::answer::Answer;
+use crate::answer::{Answer, print_answer};
 use crate::calls::audit;
 use crate::cards::{Shown, print_cards, print_elements, print_plan, print_record};
 use crate::rounds::{Lent, withdraw};
@@ -64,10 +64,7 @@ fn print_withdrawal<C: Shown>(rt: &HostRuntime, lent: &mut Lent<C>, more: &[C]) 
 
 // Audits, and prints what is found.
 fn print_audit<C: Shown>(rt: &HostRuntime, lent: &Lent<C>) -> io::Result<()> {
-    match audit(lent.book, lent.tray) {
-        Ok(answer) => println!(rt; "audit: {answer}"),
-        Err(refusal) => println!(rt; "audit: {refusal}"),
-    }
+    print_answer(rt, "audit", audit(lent.book, lent.tray))
 }
 
 // Goes on from a deal.

@@ -1,6 +1,7 @@
-// Every refusal of every call, in dial numbers, on a plan of three harbours with threshold two.
+// Every refusal of every call, in dial numbers, on a plan two of three; the last round on one harbour alone.
 ghost use Rattle.std.specs.Prelude.{◌≡◌, true, false, codes};
 
+use crate::answer::{Answer, print_answer};
 use crate::calls;
 use crate::kept::Desk;
 use crate::rounds::{Lent, plan_of};
@@ -14,15 +15,15 @@ use trays::record::deal::deal;
 use trays::refusal::Refusal;
 
 // The key, the random elements of a deal and those of a draw.
-const KEY: [DialNumber; 1] = [DialNumber { held: 1234 }];
+pub(crate) const KEY: [DialNumber; 1] = [DialNumber { held: 1234 }];
 
-const RANDOM: [DialNumber; 3] = [
+pub(crate) const RANDOM: [DialNumber; 3] = [
     DialNumber { held: 9000 },
     DialNumber { held: 500 },
     DialNumber { held: 0 },
 ];
 
-const MORE: [DialNumber; 3] = [
+pub(crate) const MORE: [DialNumber; 3] = [
     DialNumber { held: 1 },
     DialNumber { held: 2 },
     DialNumber { held: 3 },
@@ -92,7 +93,7 @@ fn print_deals(rt: &HostRuntime, plan: Plan) -> io::Result<()> {
     )
 }
 
-// Draws, refused but for the last round.
+// Draws that are refused, all but the one in the last round.
 fn print_draws(rt: &HostRuntime, desk: &mut Desk) -> io::Result<()> {
     print_tried(
         rt,
@@ -227,7 +228,7 @@ fn print_calls(rt: &HostRuntime, home: &mut Desk, away: &mut Desk) -> io::Result
     print_audits(rt, home)
 }
 
-// Renews up to the last round, and once more into it; answers the round that the last note bore.
+// Renews up to the last round but one, and once more into the last; answers the round that the last note bore.
 fn renew_to_last(lent: &mut Lent<DialNumber>) -> Result<u16, Refusal> {
     lent.renew_times(&[], 65_534)?;
     lent.renew(&[])
@@ -245,10 +246,8 @@ fn print_last_round(
         tray: &mut tray[0..1],
         sheet: &mut sheet[0..1],
     };
-    match renew_to_last(&mut lent) {
-        Ok(round) => println!(rt; "draw and apply: a note of round {round}")?,
-        Err(refusal) => println!(rt; "draw and apply: {refusal}")?,
-    }
+    let renewed = renew_to_last(&mut lent).map(Answer::Noted);
+    print_answer(rt, "draw and apply", renewed)?;
     let round = book.round();
     println!(rt; "round: {round}")?;
     print_trial(

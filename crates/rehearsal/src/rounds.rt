@@ -28,6 +28,8 @@ pub(crate) fn plan_of(harbours: usize, threshold: usize, components: usize) -> P
     Plan::new(harbours, threshold, components).unwrap()
 }
 
+// Kept: here and in the calls record and sheet come apart, since a trial lends a part of a desk's sheet.
+
 // Spends a note by a discard, with a sheet that is as long as the tray.
 pub(crate) fn spend<E: Element>(book: &mut Record, note: Note, sheet: &mut [E]) -> Discarded
     requires { Fits book.old (length sheet.old) }

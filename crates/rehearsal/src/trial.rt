@@ -81,7 +81,7 @@ pub(crate) fn try_note<F: FnOnce(&mut Desk, &mut Desk, Note) -> Result<Answer, R
     let (at_home, elsewhere) = (Kept::of(home), Kept::of(away));
     let called = call(home, away, note);
     let unaltered = at_home.is_still(home) && elsewhere.is_still(away);
-    // Kept: in a closure of `map_err` it is not known that the sheet still has six places.
+    // Kept: in a closure of `map_err` it is not known that the record still has a tray of six places.
     let answer = match called {
         Ok(answer) => Ok(answer),
         Err(returned) => Err(spend_returned(&mut home.book, returned, &mut home.sheet)),

@@ -19,7 +19,8 @@ pub(crate) fn copy<E: Element>(to: &mut [E], from: &[E])
     ensures { map E.Element.meaning to.new ≡ map E.Element.meaning from.now }
 {
     let zero = E::zero();
-    // Kept: after a zip of iter_mut a proof knows nothing of what was written, so the others are read at the place.
+    // Kept: after a zip of iter_mut a proof knows nothing of what was written, so the others are read at the place;
+    // and no wipe with an add behind it, which would write each place twice.
     for (place, own) in to.iter_mut().enumerate() {
         *own = zero.sum(&from[place]);
     }

@@ -5,6 +5,7 @@ ghost use Rattle.pictures.specs.declared.fault.CardFault.TheVariants.{Slip};
 use crate::fault::{At, CardFault, WriteFault};
 use kinds::card::ElementFault;
 
+// Kept: by hand, since a derived From does not say what it gives.
 impl From<At<ElementFault>> for CardFault {
     ghost from_gives = { λ x r. r ≡ Slip x };
 

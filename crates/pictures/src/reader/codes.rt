@@ -18,11 +18,14 @@ impl<'a> BitReader<'a> {
         }
     }
 
+    // Kept: `BetweenCodes` is asked for by name and is no ghost field, since in the midst of a step it does not hold.
+
     // Reads on for a code: four bytes where a code is longer than a byte and there are four, otherwise one.
     fn read_on(&mut self)
         requires { BetweenCodes self.old × (1 ≤ length self.old.rest.now) }
         ensures { ReadOn self.old self.new }
     {
+        // Kept: two arms, of which each names the bytes that it takes; by a size they would be cut out and put together.
         match self.rest {
             [first, second, third, fourth, behind @ ..] if self.width > 8 => {
                 let word = u32::from_be_bytes([*first, *second, *third, *fourth]);

@@ -20,12 +20,14 @@ impl<'a> BitWriter<'a> {
     }
 
     // Puts out so many bytes, the first of what is held.
+    // Kept: `same`, here and in push, is of the reference, and the other clause of what it holds.
     fn give<const BYTES: usize>(&mut self)
         requires { (BYTES ≤ 4) × CanGive BYTES self.old }
         ensures same { self.new.body.ghost_name ≡ self.old.body.ghost_name }
         ensures gave { Gave self.old self.new }
     {
         self.bits -= 8 * BYTES as u32;
+        // Kept: the reader takes its codes off the top in the same two lines, of fields of its own.
         let top = self.held >> self.bits;
         self.held -= top << self.bits;
         let bytes = top.to_be_bytes();

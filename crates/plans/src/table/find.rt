@@ -81,7 +81,7 @@ impl Table {
     }
 
     // Where a group's slips begin on a member's card, as a place in the tray, and the sign under which they restore the key.
-    // Kept: place and number of the sign by rule, as a pair.
+    // Kept: the place and the sign are a pair of numbers by rule.
     pub fn find(&self, mask: u16, harbour: usize) -> Result<(usize, i8), Refusal>
         ensures { Found (shape_of self.now.plan) mask harbour result }
     {

@@ -16,6 +16,7 @@ fn fill_masks(harbours: usize, threshold: usize, masks: &mut [u16])
     ensures { masks.new ≡ groups harbours threshold ++ replicate (252 - choose harbours threshold) 0 }
 {
     let groups = (0..1u16 << harbours).filter(|mask| mask.count_ones() as usize == threshold);
+    // Kept: after a zip with iter_mut a proof knows nothing of what was written, so a mask is written at its number.
     for (number, mask) in groups.enumerate() {
         masks[number] = mask;
     }
@@ -26,6 +27,7 @@ fn triangle_row(n: usize) -> [u16; 11]
     requires { n ≤ 10 }
     ensures { IsRow 11 n result }
 {
+    // Kept: of a closure that holds n, no proof knows at each turn of array::from_fn that it still holds it.
     let mut row = [0u16; 11];
     for (r, place) in row.iter_mut().enumerate() {
         *place = binomial(n, r) as u16;

@@ -10,6 +10,7 @@ use kinds::element::Element;
 
 impl Record {
     // Refuses an apply by the note's round and the lengths of tray and sheet.
+    // Kept: each call tests its own lengths, so that the order of its refusals is read off.
     fn judge_apply(&self, round: u16, tray: usize, sheet: usize) -> Result<(), Refusal>
         ensures { Passes (refusal 0 (told_by self.now) (apply round tray sheet)) result }
     {

@@ -13,6 +13,7 @@ use plans::plan::Plan;
 use sharing::{groups_restore, runs_hide};
 
 // Refuses a deal by the lengths of key, random elements and tray.
+// Kept: each call tests its own lengths, so that the order of its refusals is read off.
 #[tactic(auto, using(crate::proofs::Lengths::random_long, crate::proofs::Lengths::tray_long))]
 fn judge(plan: &Plan, key: usize, random: usize, tray: usize) -> Result<(), Refusal>
     ensures { Passes (deal_refusal (scheme_of plan.now) key random tray) result }

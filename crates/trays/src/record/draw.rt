@@ -10,6 +10,7 @@ use kinds::element::Element;
 
 impl Record {
     // Refuses a draw by the lengths of random elements and sheet.
+    // Kept: each call tests its own lengths, so that the order of its refusals is read off.
     #[tactic(auto, using(crate::proofs::Lengths::random_long, crate::proofs::Lengths::tray_long))]
     fn judge_draw(&self, random: usize, sheet: usize) -> Result<(), Refusal>
         ensures { Passes (refusal 0 (told_by self.now) (draw random sheet)) result }

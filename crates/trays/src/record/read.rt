@@ -9,6 +9,7 @@ use kinds::element::Element;
 
 impl Record {
     // Refuses a reading by the harbour and the length of the tray.
+    // Kept: each call tests its own lengths, so that the order of its refusals is read off.
     fn judge_read(&self, harbour: usize, tray: usize) -> Result<(), Refusal>
         ensures { Passes (refusal 0 (told_by self.now) (read harbour tray)) result }
     {

@@ -30,6 +30,7 @@ impl<'a, E: Element> Tray<'a, E> {
         requires { Asks self.now number component }
         ensures { E.Element.meaning result ≡ one_restored E.Element.group E.Element.meaning self.now number component }
     {
+        // Kept: a running sum, no less plain than a fold whose closure calls the same method.
         let mut sum = E::zero();
         for harbour in 1..=self.table.plan().harbours() {
             sum = self.with_slip(sum, number, harbour, component);

@@ -7,6 +7,8 @@ use crate::slips::{add, copy, part, wipe};
 use kinds::element::Element;
 
 impl<'a, E: Element> Source<'a, E> {
+    // Kept: three methods ask for a place as long as the key, of which no field of a source can speak.
+
     // Lays the key, or zeros where there is none.
     fn lay_key(&self, to: &mut [E])
         requires { length to.old ≡ self.now.size }
@@ -41,7 +43,7 @@ impl<'a, E: Element> Source<'a, E> {
         }
     }
 
-    // The same, from a place of the tray on.
+    // Lays a member's slips from a place of the tray on.
     pub(crate) fn lay_at(&self, tray: &mut [E], place: usize, block: Option<usize>)
         requires room { place + self.now.size ≤ length tray.old }
         requires block { IfSome block (λ b. b < length self.now.own.now / self.now.size) }
