@@ -12,7 +12,7 @@ use std::io;
 use trays::record::Record;
 
 // A kind that can be shown: it has a name, and its elements are printed.
-// Kept: a trait of this program and no Display, since elements are printed behind spaces, each kind in its own base.
+// Kept: a trait of this program and no Display, since the library prints no element, and a kind's name goes with the printing.
 pub trait Shown: Card {
     // The name of the kind.
     fn name() -> &'static str

@@ -20,14 +20,14 @@ impl<'a> BitWriter<'a> {
     }
 
     // Puts out so many bytes, the first of what is held.
-    // Kept: `same`, here and in push, is of the reference, and the other clause of what it holds.
+    // Kept: `same` is a clause of its own, here and in push, since it speaks of the reference, and the other of what is held and written.
     fn give<const BYTES: usize>(&mut self)
         requires { (BYTES ≤ 4) × CanGive BYTES self.old }
         ensures same { self.new.body.ghost_name ≡ self.old.body.ghost_name }
         ensures gave { Gave self.old self.new }
     {
         self.bits -= 8 * BYTES as u32;
-        // Kept: the reader takes its codes off the top in the same two lines, of fields of its own.
+        // Kept: the reader has the same two lines over its own fields, and a function for two lines is no plainer.
         let top = self.held >> self.bits;
         self.held -= top << self.bits;
         let bytes = top.to_be_bytes();
