@@ -7,9 +7,10 @@ use kinds::dial_number::DialNumber;
 use kinds::key_word::KeyWord;
 use kinds::kind::Kind;
 use kinds::mask_byte::MaskByte;
-use lines::answer_lines;
+use lines::answer_text;
 use pictures::kind::kind_in;
 use std::io;
+use std::io::BufReader;
 
 mod judged;
 mod line;
@@ -30,5 +31,6 @@ fn answer(rt: &HostRuntime, number: u64, line: &str) -> io::Result<()> {
 }
 
 fn main(rt: HostRuntime) -> io::Result<()> {
-    answer_lines(&rt, |number, line| answer(&rt, number, line))
+    let input = BufReader::new(rt.alloc(), rt.stdin())?;
+    answer_text(rt.alloc(), input, |number, line| answer(&rt, number, line))
 }

@@ -5,7 +5,7 @@ ghost use Rattle.std.specs.Prelude.{◌≡◌, OnOk, IfSome};
 ghost use Rattle.lines.specs.Lines.{passed_over, AnswersText, Shown};
 
 use std::alloc::Global;
-use std::io::{BufRead, BufReader};
+use std::io::BufRead;
 use std::{io, iter};
 
 // Whether a line is empty or a comment.
@@ -32,16 +32,6 @@ pub fn answer_text<B: BufRead + Drop, F: FnMut(u64, &str) -> io::Result<()>>(
         }
     }
     Ok(())
-}
-
-// Hands each line of the input that is not passed over to the caller, with its number from 1.
-pub fn answer_lines<F: FnMut(u64, &str) -> io::Result<()>>(
-    rt: &HostRuntime,
-    answer: F,
-) -> io::Result<()>
-    requires { F.IsAlwaysCallable answer }
-{
-    answer_text(rt.alloc(), BufReader::new(rt.alloc(), rt.stdin())?, answer)
 }
 
 #[cfg(test)]

@@ -3,9 +3,10 @@
 
 use crate::request::Request;
 use crate::sheet::print_plan;
-use lines::answer_lines;
+use lines::answer_text;
 use plans::plan::Plan;
 use std::io;
+use std::io::BufReader;
 
 mod request;
 mod sheet;
@@ -25,5 +26,6 @@ fn answer(rt: &HostRuntime, number: u64, line: &str) -> io::Result<()> {
 }
 
 fn main(rt: HostRuntime) -> io::Result<()> {
-    answer_lines(&rt, |number, line| answer(&rt, number, line))
+    let input = BufReader::new(rt.alloc(), rt.stdin())?;
+    answer_text(rt.alloc(), input, |number, line| answer(&rt, number, line))
 }

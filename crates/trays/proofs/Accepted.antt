@@ -70,16 +70,16 @@ module _ {E : Type 0} (K : Kind E) (tray : List E) where
   abbrev pub restored_in : Scheme → ℕ → List K.group.Value
   restored_in s g = restores K.group s (values K tray) g
 
-  -- The lowest group from 1 on that restores otherwise than group 0, or none.
-  abbrev pub LowestApart : Scheme → ℕ → Option ℕ → Type 0
-  LowestApart s n r =
-      MatchOption r ((k : ℕ) → 1 ≤ k → k < n → restored_in s k ≡ restored_in s 0)
-      (λ g. (1 ≤ g) × (g < n) × (restored_in s g ≡ restored_in s 0 → ⊥) × ((k : ℕ) → 1 ≤ k → k < g → restored_in s k ≡ restored_in s 0))
+  -- The lowest group from one number on that restores otherwise than group 0, or none before another.
+  abbrev pub LowestApart : Scheme → ℕ → ℕ → Option ℕ → Type 0
+  LowestApart s low n r =
+      MatchOption r ((k : ℕ) → low ≤ k → k < n → restored_in s k ≡ restored_in s 0)
+      (λ g. (low ≤ g) × (g < n) × (restored_in s g ≡ restored_in s 0 → ⊥) × ((k : ℕ) → low ≤ k → k < g → restored_in s k ≡ restored_in s 0))
 
-  pub audited : (t : Told) (s : Scheme) (n : ℕ) (r : Option ℕ) → s ≡ t.scheme → n ≡ length t.scheme.masks → LowestApart s n r → Audits K t tray (seen_audit (Ok r))
-  audited t s n r same all found = told r (subst (λ x. LowestApart x n r) same found)
+  pub audited : (t : Told) (s : Scheme) (low n : ℕ) (r : Option ℕ) → LowestApart s low n r → s ≡ t.scheme → low ≡ 1 → n ≡ length t.scheme.masks → Audits K t tray (seen_audit (Ok r))
+  audited t s low n r found same first all = told r (subst (λ l. LowestApart t.scheme l n r) first (subst (λ x. LowestApart x low n r) same found))
     where
-      told : (o : Option ℕ) → LowestApart t.scheme n o → Audits K t tray (seen_audit (Ok o))
+      told : (o : Option ℕ) → LowestApart t.scheme 1 n o → Audits K t tray (seen_audit (Ok o))
       told None alike = inl (refl, λ g low. from_one (λ h. restored_in t.scheme h ≡ restored_in t.scheme 0) n refl alike g (omega (arith, all, low)))
       told (Some g) apart =
           inr (g, refl, omega (arith, all, apart.1), apart.2, λ h low. from_one (λ x. restored_in t.scheme x ≡ restored_in t.scheme 0) g refl apart.3 h low)

@@ -15,7 +15,7 @@ spend_returned-requires g c =
 pub returns-in-Ok-clause-turns : goal.returns-in-Ok-clause-turns
 returns-in-Ok-clause-turns g c =
     renewed g.E.Element.group g.E.Element.meaning (told_by c.args.self.now.book.now) c.args.random.now c.args.self.now.sheet.now (told_by c.draw.new.self) c.draw.new.sheet
-    c.in_ok-note.note c.in_ok-note.ensures c.args.self.now.tray.now (told_by c.apply.new.self) c.apply.new.tray c.apply.new.sheet c.round-bore.result (search rules) c.round-bore.ensures c.in-Ok.ensures.turns
+    c.in_ok-note.note c.in_ok-note.ensures c.args.self.now.tray.now (told_by c.apply.new.self) c.apply.new.tray c.apply.new.sheet _ (search rules) (search rules) c.in-Ok.ensures.turns
 
 pub returns-in-Err-clause-turns : goal.returns-in-Err-clause-turns
 returns-in-Err-clause-turns g c =

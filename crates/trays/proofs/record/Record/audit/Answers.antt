@@ -19,4 +19,4 @@ returns g c = λ sheet code number width.
     let rest : ℕ → List g.E.Element.group.Value = restored_in K c.args.tray.now (scheme_of q) in
     let found = first_from_Range _ _ _ c.find.result (λ h. rest h ≡ rest 0 → ⊥) (λ h. rest h ≡ rest 0) c.find.ensures.ran (λ x q k. search (rules, tests)) (λ x q k. search (rules, tests)) in
     takes_turn K s s (audit (length c.args.tray.now)) [] _ (auditable width (length c.args.tray.now) (told_by c.args.self.now) long) refl
-    (audited K c.args.tray.now (told_by c.args.self.now) (scheme_of q) c.group_count.result c.find.result (same_scheme q p c.table-table.ensures.plan) (omega (arith, many p, c.group_count.ensures.value)) found, refl, refl)
+    (audited K c.args.tray.now (told_by c.args.self.now) (scheme_of q) _ _ c.find.result found (same_scheme q p c.table-table.ensures.plan) (omega arith) (omega (arith, many p, c.group_count.ensures.value)), refl, refl)
