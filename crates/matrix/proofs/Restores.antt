@@ -63,7 +63,7 @@ partly_whole size g c (key j) some = grind (arith, nat_tests)
 partly_whole size g c (block g' b j) some = grind (arith, nat_tests)
 
 -- a sum so far fits 8 bits
-sum_fits : (size n g c : ℕ) (j : Column) (z : ℤ) → Had size g j → z ≡ sum_in size n g c j → SFits w8 z
+pub sum_fits : (size n g c : ℕ) (j : Column) (z : ℤ) → Had size g j → z ≡ sum_in size n g c j → SFits w8 z
 sum_fits size n g c j z had e =
     let small : SFits w8 (pos (partly size n g c j)) = record { sfits = omega (arith, partly_small size n g c j) } in
     subst (SFits w8) (sym (e ∙ sum_is size n g c j had)) small

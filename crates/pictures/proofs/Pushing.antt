@@ -66,13 +66,13 @@ module _ (n : ℕ) (few : n ≤ 4) (w : BitWriter) (can : CanGive n w) where
   abbrev out : ℕ
   out = w.held / 2 ^ stay
 
-  place_fits : w.at + n ≤ length w.body.now
+  pub place_fits : w.at + n ≤ length w.body.now
   place_fits = omega (arith, can.many, can.fits)
 
   bits_are : w.bits ≡ 8 * n + stay
   bits_are = omega (arith, can.many)
 
-  out_fits : out < 2 ^ (8 * n)
+  pub out_fits : out < 2 ^ (8 * n)
   out_fits = shr_below w.held (8 * n) stay (subst (λ k. w.held < 2 ^ k) bits_are can.small)
 
   stays : w.held - out * 2 ^ stay % 2 ^ 64 ≡ w.held % 2 ^ stay

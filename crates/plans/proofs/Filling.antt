@@ -1,11 +1,14 @@
 -- One turn of the loop that fills a table. Assumes nothing.
-use Rattle.std.proofs.Common.{◌≡◌, ℕ, suc, ◌+◌, ◌-◌, ◌*◌, ◌%◌, ◌^◌, ◌<◌, ◌≤◌, List, [], ◌∷◌, ◌++◌, map, length, set, replicate, get_or, sym, refl, ap, ◌∙◌, ap₂, append_assoc, arith}
+use Rattle.std.proofs.Common.{◌≡◌, ℕ, suc, ◌+◌, ◌-◌, ◌*◌, ◌%◌, ◌^◌, ◌<◌, ◌≤◌, List, [], ◌∷◌, ◌++◌, map, length, set, replicate, get_or, sym, refl, ap, ◌∙◌, ap₂, subst, subst₂, append_assoc, inl, inr, arith}
 use Rattle.std.specs.List.{enumerate_from}
-use Rattle.std.proofs.lemmas.List.{set_at, length-map, length_push, map_push, map-id}
+use Rattle.std.proofs.lemmas.Bool.{cases_eq}
+use Rattle.std.proofs.lemmas.Grind.{get_or-set_at}
+use Rattle.std.proofs.lemmas.List.{set_at, get_or-set_other, length-set, length-map, length_push, map_push, map-id}
 use Rattle.std.proofs.lemmas.List.FromFn.{length-enumerate_from, get_or-enumerate_from}
 use Rattle.std.proofs.lemmas.Nat.{one_shl}
 use Rattle.plans.specs.Binomial.{choose}
 use Rattle.plans.specs.Groups.{groups}
+use Rattle.plans.specs.Triangle.{IsRow}
 use Rattle.plans.proofs.Choose.{choose_fits}
 use Rattle.plans.proofs.Ranks.{groups_count}
 
@@ -44,10 +47,28 @@ unnumbered : (a : ℕ) (xs : List ℕ) → map (λ p. p.1) (enumerate_from a xs)
 unnumbered a [] = refl
 unnumbered a (x ∷ xs) = ap (λ ys. x ∷ ys) (unnumbered (a + 1) xs)
 
--- all masks
-pub filled_all : (n t : ℕ) (numbered : List (ℕ × ℕ)) (masks : List ℕ) → map (λ p. (p.0, p.1)) numbered ≡ enumerate_from 0 (groups n t) → Filled numbered masks
-    → masks ≡ groups n t ++ replicate (252 - choose n t) 0
-filled_all n t numbered masks all f =
+-- all masks, and how many they are
+pub filled_all : (n t count : ℕ) (numbered : List (ℕ × ℕ)) (masks : List ℕ) → n ≤ 10 → map (λ p. (p.0, p.1)) numbered ≡ enumerate_from 0 (groups n t) → Filled numbered masks → count ≡ length numbered
+    → (count ≡ choose n t) × (count ≤ 252) × (masks ≡ groups n t ++ replicate (252 - count) 0)
+filled_all n t count numbered masks few all f counted =
     let each : numbered ≡ enumerate_from 0 (groups n t) = sym (map-id numbered) ∙ all in
-    let many : length numbered ≡ choose n t = ap length each ∙ length-enumerate_from 0 (groups n t) ∙ groups_count n t in
-    f ∙ ap₂ (λ xs k. xs ++ replicate (252 - k) 0) (ap (map (λ p. p.1)) each ∙ unnumbered 0 (groups n t)) many
+    let many : count ≡ choose n t = counted ∙ ap length each ∙ length-enumerate_from 0 (groups n t) ∙ groups_count n t in (
+      many,
+      omega (arith, many, choose_fits n t few),
+      f ∙ ap₂ (λ xs k. xs ++ replicate (252 - k) 0) (ap (map (λ p. p.1)) each ∙ unnumbered 0 (groups n t)) (sym counted),
+    )
+
+-- the rows so far
+abbrev pub Rows : ℕ → List (List ℕ) → Type 0
+Rows n counts = (length counts ≡ 10) × ((k : ℕ) → k < n → IsRow 11 k (get_or counts k []))
+
+-- one row more
+pub row_more : (n : ℕ) (counts : List (List ℕ)) (row : List ℕ) → n < 10 → IsRow 11 n row → Rows n counts → Rows (n + 1) (set counts n row)
+row_more n counts row few is r = (
+  length-set counts n row ∙ r.0,
+  λ k lt.
+      elim (cases_eq k n) [
+        | inl same ↦ subst₂ (IsRow 11) (sym same) (sym (get_or-set_at counts n k row [] same (omega (arith, few, r.0)))) is
+        | inr other ↦ subst (IsRow 11 k) (sym (get_or-set_other counts n k row [] other)) (r.1 k (omega (arith, other)))
+      ],
+)

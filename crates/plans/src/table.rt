@@ -12,11 +12,12 @@ pub struct Table {
     // Kept: the library allocates nothing, so the masks stand in an array, with their count beside it.
     masks: [u16; 252],
     count: usize,
+    // As many rows as there are harbours; behind them stand zeros.
     binomials: [[u16; 11]; 10],
     ghost counted: { count ≡ choose plan.harbours plan.threshold },
     ghost few: { count ≤ 252 },
     ghost listed: { masks ≡ groups plan.harbours plan.threshold ++ replicate (252 - count) 0 },
-    ghost chosen: { IsTriangle 10 11 binomials },
+    ghost chosen: { IsTriangle plan.harbours 11 binomials },
 }
 
 mod find;

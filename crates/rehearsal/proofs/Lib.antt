@@ -1,2 +1,3 @@
+pub mod Audited
 pub mod Codes
 pub mod Turned

@@ -1,6 +1,7 @@
 // The calls on a dealt tray, and what each of them answers.
 ghost use Rattle.std.specs.Prelude.{◌≡◌};
 ghost use Rattle.trays.specs.Turns.{told_by};
+ghost use Rattle.rehearsal.specs.Answers.{Audits};
 ghost use Rattle.rehearsal.specs.Rounds.{SameTray};
 
 use crate::answer::Answer;
@@ -55,6 +56,8 @@ pub(crate) fn read<E: Element>(
 }
 
 // Audits.
-pub(crate) fn audit<E: Element>(book: &Record, tray: &[E]) -> Result<Answer, Refusal> {
+pub(crate) fn audit<E: Element>(book: &Record, tray: &[E]) -> Result<Answer, Refusal>
+    ensures { Audits E.Element.group E.Element.meaning (told_by book.now) tray.now result }
+{
     book.audit(tray).map(Answer::from)
 }

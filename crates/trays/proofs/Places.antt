@@ -80,7 +80,7 @@ module _ (G : Group) where
         let just : m x ≡ get_or (map m from) i G.nil = value ∙ ap₂ G.plus none read ∙ left_unit G (get_or (map m from) i G.nil) in
         writes m xs (map m from) (map m to) i x G.nil done (omega (arith, long)) (omega (arith, long, longer)) just
 
-    adds : (to xs : List E) (from : List G.Value) (i : ℕ) (x d : E) → Added to from i xs → length to ≡ length from → i < length to
+    pub adds : (to xs : List E) (from : List G.Value) (i : ℕ) (x d : E) → Added to from i xs → length to ≡ length from → i < length to
         → m x ≡ G.plus (m (get_or xs i d)) (get_or from i G.nil) → Added to from (i + 1) (set xs i x)
     adds to xs from i x d done same below value =
         let long : length (map m to) ≡ length to = length-map to m in

@@ -43,7 +43,7 @@ module _ (G : Group) (p : Plan) (xs : List G.Value) (g c : ℕ) where
       by true = refl
       by false = refl
 
-  sum_more : (b at : ℕ) (z : ℤ) (y : G.Value) → Seat p g b at z → y ≡ get_or xs (at + c) G.nil
+  pub sum_more : (b at : ℕ) (z : ℤ) (y : G.Value) → Seat p g b at z → y ≡ get_or xs (at + c) G.nil
       → G.plus (restored_by G (scheme_of p) xs g b c) (cond (eqb (of_z w8 z) 1) y (G.minus y)) ≡ restored_by G (scheme_of p) xs g (b + 1) c
   sum_more b at z y seat is =
       let here : at ≡ place (masks_of (shape_of p)) p.components g b = seat.ends ∙ front_long (scheme_of p) b g (omega (arith, seat.low, many p)) in
@@ -52,7 +52,7 @@ module _ (G : Group) (p : Plan) (xs : List G.Value) (g c : ℕ) where
       sym (more b true seat.in_it ∙ ap (G.plus (restored_by G (scheme_of p) xs g b c)) (G.unit (term b) ∙ sym one))
 
   -- The sum so far, with one slip more.
-  sum_step : (h at : ℕ) (z : ℤ) (y v r : G.Value) (t : Bool) → eqb (of_z w8 z) 1 ≡ t → 1 ≤ h → Seat p g (h - 1) at z → y ≡ get_or xs (at + c) G.nil → v ≡ restored_by G (scheme_of p) xs g (h - 1) c
+  pub sum_step : (h at : ℕ) (z : ℤ) (y v r : G.Value) (t : Bool) → eqb (of_z w8 z) 1 ≡ t → 1 ≤ h → Seat p g (h - 1) at z → y ≡ get_or xs (at + c) G.nil → v ≡ restored_by G (scheme_of p) xs g (h - 1) c
       → r ≡ G.plus v (cond t y (G.minus y)) → r ≡ restored_by G (scheme_of p) xs g h c
   sum_step h at z y v r t is_first some seat is so_far new =
       new ∙ ap₂ (λ x u. G.plus x (cond u y (G.minus y))) so_far (sym is_first) ∙ sum_more (h - 1) at z y seat is ∙ at_harbour h some
@@ -66,10 +66,10 @@ module _ (G : Group) (p : Plan) (xs : List G.Value) (g c : ℕ) where
   sum_later h at z y v r some seat later is so_far new = sum_step h at z y v r false (ne_eqb (of_z w8 z) 1 later) some seat is so_far new
 
 -- Component by component.
-each_component : {V : Type 0} (f h : ℕ → V) (k : ℕ) → ((j : ℕ) → j < k → f j ≡ h j) → map f (range_with_len 0 k) ≡ map h (range_with_len 0 k)
+pub each_component : {V : Type 0} (f h : ℕ → V) (k : ℕ) → ((j : ℕ) → j < k → f j ≡ h j) → map f (range_with_len 0 k) ≡ map h (range_with_len 0 k)
 each_component f h k each = map_all f h (range_with_len 0 k) (all_counting (λ j. f j ≡ h j) 0 k (λ j l u. each j (omega arith)))
 
-one_component : {V : Type 0} (f h : ℕ → V) (k j : ℕ) → j < k → map f (range_with_len 0 k) ≡ map h (range_with_len 0 k) → f j ≡ h j
+pub one_component : {V : Type 0} (f h : ℕ → V) (k j : ℕ) → j < k → map f (range_with_len 0 k) ≡ map h (range_with_len 0 k) → f j ≡ h j
 one_component f h k j below same =
     sym (get_or-map-range_with_len f 0 k j j (f j) below (omega arith)) ∙ ap (λ vs. get_or vs j (f j)) same ∙ get_or-map-range_with_len h 0 k j j (f j) below (omega arith)
 

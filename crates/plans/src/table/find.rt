@@ -9,7 +9,6 @@ use crate::mask::{has_bit, position};
 use crate::refusal::Refusal;
 use crate::sign::sign;
 use crate::table::Table;
-use std::cmp::Ordering;
 
 impl Table {
     // C(n, r), from the table.
@@ -36,6 +35,7 @@ impl Table {
     }
 
     // What a bit adds to the rank of a mask, by its position, with one bit left out.
+    // Kept: two tests and no match on an Ordering, which is made into a number and taken apart again at each bit of each find.
     fn adds(&self, bit: usize, position: usize, left_out: usize) -> usize
         requires row { bit < self.now.plan.harbours }
         requires first { 1 ≤ position }
@@ -43,11 +43,13 @@ impl Table {
         ensures value { result ≡ on_card left_out bit position }
         ensures few { result ≤ 252 }
     {
-        match bit.cmp(&left_out) {
-            Ordering::Less => self.chosen(bit, position),
-            Ordering::Equal => 0,
-            Ordering::Greater => self.chosen(bit - 1, position - 1),
+        if bit < left_out {
+            return self.chosen(bit, position);
         }
+        if bit > left_out {
+            return self.chosen(bit - 1, position - 1);
+        }
+        0
     }
 
     // The rank of a mask among those with as many bits, or on a harbour's card, with that harbour's bit left out.

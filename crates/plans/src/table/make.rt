@@ -7,39 +7,44 @@ ghost use Rattle.plans.specs.Triangle.{IsRow, IsTriangle};
 use crate::binomial::binomial;
 use crate::plan::Plan;
 use crate::table::Table;
-use std::array;
 
-// Writes the masks of so many harbours with so many bits, rising.
-fn fill_masks(harbours: usize, threshold: usize, masks: &mut [u16])
+// Writes the masks of so many harbours with so many bits, rising, and answers how many they are.
+fn fill_masks(harbours: usize, threshold: usize, masks: &mut [u16]) -> usize
     requires few { harbours ≤ 10 }
     requires clear { masks.old ≡ replicate 252 0 }
-    ensures { masks.new ≡ groups harbours threshold ++ replicate (252 - choose harbours threshold) 0 }
+    ensures count { result ≡ choose harbours threshold }
+    ensures few { result ≤ 252 }
+    ensures listed { masks.new ≡ groups harbours threshold ++ replicate (252 - result) 0 }
 {
+    let mut count = 0;
     let groups = (0..1u16 << harbours).filter(|mask| mask.count_ones() as usize == threshold);
     // Kept: after a zip with iter_mut a proof knows nothing of what was written, so a mask is written at its number.
     for (number, mask) in groups.enumerate() {
         masks[number] = mask;
+        count = number + 1;
     }
+    count
 }
 
-// A row of the binomial triangle.
-fn triangle_row(n: usize) -> [u16; 11]
+// Writes a row of the binomial triangle.
+fn fill_row(n: usize, row: &mut [u16; 11])
     requires { n ≤ 10 }
-    ensures { IsRow 11 n result }
+    ensures { IsRow 11 n row.new }
 {
-    // Kept: of a closure that holds n, no proof knows at each turn of array::from_fn that it still holds it.
-    let mut row = [0u16; 11];
     for (r, place) in row.iter_mut().enumerate() {
         *place = binomial(n, r) as u16;
     }
-    row
 }
 
-// The first rows of the binomial triangle.
-fn triangle() -> [[u16; 11]; 10]
-    ensures { IsTriangle 10 11 result }
+// Writes the first rows of the binomial triangle.
+// Kept: a loop over the rows of a plan, since array::from_fn would make all ten, and the recursion for ten harbours takes longer than all the rest of a small deal.
+fn fill_rows(count: usize, rows: &mut [[u16; 11]; 10])
+    requires { count ≤ 10 }
+    ensures { IsTriangle count 11 rows.new }
 {
-    array::from_fn(triangle_row)
+    for n in 0..count {
+        fill_row(n, &mut rows[n]);
+    }
 }
 
 impl Plan {
@@ -50,12 +55,14 @@ impl Plan {
         ensures masks { result.masks ≡ masks_of (shape_of self.now) ++ replicate (252 - group_count (shape_of self.now)) 0 }
     {
         let mut masks = [0u16; 252];
-        fill_masks(self.harbours(), self.threshold(), &mut masks);
+        let mut binomials = [[0u16; 11]; 10];
+        let count = fill_masks(self.harbours(), self.threshold(), &mut masks);
+        fill_rows(self.harbours(), &mut binomials);
         Table {
             plan: *self,
             masks,
-            count: self.group_count(),
-            binomials: triangle(),
+            count,
+            binomials,
         }
     }
 }

@@ -4,6 +4,5 @@ use Rattle.plans.proofs.table.Table.chosen.Goals as goal
 
 pub returns-clause-few : goal.returns-clause-few
 returns-clause-few c =
-    let row : c.args.n < 10 = omega (arith, c.requires.row, c.args.self.now.plan.few) in
     let column : c.args.r < 11 = omega (arith, c.requires.column) in
-    omega (arith, c.args.self.now.chosen c.args.n row c.args.r column, choose_fits c.args.n c.args.r (omega (arith, row)))
+    omega (arith, c.args.self.now.chosen c.args.n c.requires.row c.args.r column, choose_fits c.args.n c.args.r (omega (arith, c.requires.row, c.args.self.now.plan.few)))

@@ -27,7 +27,7 @@ lay_at-requires-clause-block g c =
     let source : Sourced c.args.self.now c.loop-number.number c.source.result =
     record { keyed = c.source.ensures.key; owned = c.source.ensures.own; sized = c.source.ensures.size } in
     block_there c.args.self.now c.loop-number.number c.args.harbour c.in-Ok.place (get_or c.masks-mask-items.result.now c.loop-number.number 0) c.in-Ok.sign c.source.result c.then_some-block.result
-    (ap (λ ms. get_or ms c.loop-number.number 0) c.masks-mask-items.ensures.value) c.requires.some source (seat g (goal.at.lay_at-requires-clause-block g c).In-Ok) c.then_some-block.ensures
+    (ap (λ ms. get_or ms c.loop-number.number 0) c.masks-mask-items.ensures.value) c.requires.some source (seat g (goal.at.lay_at-requires-clause-block g c).In-Ok) (search rules)
 
 pub loop-number-preserved : goal.loop-number-preserved
 loop-number-preserved g c =
@@ -44,7 +44,7 @@ loop-number-preserved g c =
           let source : Sourced d n w.source.result = record { keyed = w.source.ensures.key; owned = w.source.ensures.own; sized = w.source.ensures.size } in
           rw w.tray-is (record {
             laid = card_grows d g.E.Element.group g.E.Element.meaning n c.args.harbour w.in-Ok.place (get_or ms n 0) w.in-Ok.sign w.source.result w.then_some-block.result
-                c.loop-number.tray w.lay_at.new.tray (ap (λ xs. get_or xs n 0) listed) c.requires.some source here w.then_some-block.ensures so_far.laid w.lay_at.ensures.laid;
+                c.loop-number.tray w.lay_at.new.tray (ap (λ xs. get_or xs n 0) listed) c.requires.some source here (search rules) so_far.laid w.lay_at.ensures.laid;
             long = w.lay_at.ensures.long ∙ so_far.long;
           })
       | in_default w ↦
