@@ -49,6 +49,8 @@ fn fill_rows(count: usize, rows: &mut [[u16; 11]; 10])
 
 impl Plan {
     // The table of this plan's groups: all masks below 2^T with just t bits, by rising mask, and 0 behind them.
+    // Inlined, so that it is made where the caller keeps it and is not copied there.
+    #[inline(always)]
     pub fn table(&self) -> Table
         ensures plan { shape_of result.plan ≡ shape_of self.now }
         ensures count { result.count ≡ group_count (shape_of self.now) }
