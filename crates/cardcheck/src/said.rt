@@ -32,7 +32,7 @@ fn say_sound<C: Card>(rt: &HostRuntime, kind: &str, card: &Told<C>) -> io::Resul
 }
 
 // Prints what a picture of a kind comes to.
-pub fn say<C: Card>(rt: &HostRuntime, kind: &str, picture: &[u8]) -> io::Result<()> {
+pub(crate) fn say<C: Card>(rt: &HostRuntime, kind: &str, picture: &[u8]) -> io::Result<()> {
     match judge::<C>(rt.alloc(), picture) {
         Ok(card) => say_sound(rt, kind, &card),
         Err(Unsound::Refused(fault)) => say_refused(rt, fault),

@@ -1,5 +1,6 @@
 -- What is seen of a call, by what it answers. Assumes nothing.
-use Rattle.std.specs.Prelude.{◌≡◌, ℕ, List, Option, None, Some, Result, Ok, Err}
+use Rattle.std.specs.Prelude.{◌≡◌, ℕ, List, Option, None, Some, Result}
+use Rattle.std.specs.Result.{result_map_both}
 use Rattle.kinds.specs.Group.{Group}
 use Rattle.trays.specs.declared.answer.Discarded.{Discarded}
 use Rattle.trays.specs.declared.answer.Discarded.TheVariants as discarded
@@ -17,11 +18,6 @@ abbrev pub from_audit : Option ℕ → Answer
 from_audit None = Agrees
 from_audit (Some g) = Differs g
 
--- What an audit answers is told, and its refusal goes on as it is.
-abbrev pub audit_told : Result (Option ℕ) Refusal → Result Answer Refusal
-audit_told (Ok group) = Ok (from_audit group)
-audit_told (Err refusal) = Err refusal
-
--- What is told is what an audit of the tray answers.
+-- What is told is what an audit of the tray answers, and its refusal goes on as it is.
 abbrev pub Audits : {E : Type 0} → (G : Group) → (E → G.Value) → Told → List E → Result Answer Refusal → Type 0
-Audits G meaning t tray r = (a : Result (Option ℕ) Refusal) × AuditTurns G meaning t tray a × (r ≡ audit_told a)
+Audits G meaning t tray r = (a : Result (Option ℕ) Refusal) × AuditTurns G meaning t tray a × (r ≡ result_map_both from_audit (λ refusal. refusal) a)
